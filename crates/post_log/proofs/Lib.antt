@@ -1,0 +1,7 @@
+mod Body
+mod Header
+mod Upto
+mod Walk
+mod Whole
+mod Reading
+mod Telling

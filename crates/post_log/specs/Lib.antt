@@ -1,0 +1,7 @@
+pub mod Classes
+pub mod Words
+pub mod Refusals
+pub mod Verdict
+pub mod Rules
+pub mod Entries
+pub mod Steps

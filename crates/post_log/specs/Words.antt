@@ -1,0 +1,39 @@
+-- What the bits of a word say. Assumes nothing.
+use Prim.Native.Nat.{ℕ, _/_, _%_}
+use mathlib.Core.Bool.{Bool, true, false, cond}
+use mathlib.Core.List.{List, map}
+use lib.Dec.{eqb}
+use lib.ListN.{getD, drop}
+use Rattle.post_log.specs.declared.word.Word.{Word}
+use Rattle.post_log.specs.declared.word.Word.the-variants.{Floor, Head, Silence, Data}
+use Rattle.post_log.specs.Classes.{class}
+
+-- bits 31 and 30
+abbrev pub kind : ℕ → ℕ
+kind w = w / 0x4000_0000
+
+-- bits 29 to 0
+abbrev pub low : ℕ → ℕ
+low w = w % 0x4000_0000
+
+-- a word of a body by its kind; in data, bits 29 and 28 are the class and the others the amount
+abbrev pub word : ℕ → Word
+word w =
+    cond (eqb (kind w) 0) (Floor (low w))
+    (cond (eqb (kind w) 1) (Head (low w))
+    (cond (eqb (kind w) 2) (Silence (low w))
+    (Data (class (low w / 0x1000_0000)) (low w % 0x1000_0000))))
+
+abbrev pub is-data : Word → Bool
+is-data (Floor t) = false
+is-data (Head t) = false
+is-data (Silence n) = false
+is-data (Data c a) = true
+
+-- the post, bits 9 to 0 of a log's first word
+abbrev pub post : List ℕ → ℕ
+post ws = getD ws 0 0 % 0x400
+
+-- the words after the header
+abbrev pub body : List ℕ → List Word
+body ws = map word (drop 2 ws)

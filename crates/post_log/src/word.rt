@@ -1,0 +1,39 @@
+// A word of a log's body, taken apart by its kind, which is its two highest bits.
+ghost use mathlib.Core.Path.{_≡_};
+ghost use Rattle.post_log.specs.Words.{word, is-data};
+use crate::class::Class;
+
+#[derive(Clone, Copy)]
+pub enum Word {
+    // no record to come has a lower instant
+    Floor { instant: u32 },
+    // begins a record; its data word follows
+    Head { instant: u32 },
+    // how many polls stay unanswered
+    Silence { polls: u32 },
+    // ends a record; class 3 is none
+    Data { class: Option<Class>, amount: u32 },
+}
+
+impl Word {
+    pub fn from_bits(bits: u32) -> Word
+        ensures { λ r. ⌜ r ≡ word bits ⌝ }
+    {
+        let low = bits % 0x4000_0000;
+        match bits >> 30 {
+            0 => Word::Floor { instant: low },
+            1 => Word::Head { instant: low },
+            2 => Word::Silence { polls: low },
+            _ => Word::Data {
+                class: Class::from_code(low >> 28),
+                amount: low % 0x1000_0000,
+            },
+        }
+    }
+
+    pub fn is_data(self) -> bool
+        ensures { λ r. ⌜ r ≡ is-data self ⌝ }
+    {
+        matches!(self, Word::Data { .. })
+    }
+}
