@@ -1,8 +1,9 @@
+-- SPDX-License-Identifier: MIT OR Apache-2.0
 -- The first entry of words, and the entries after it.
 use Prim.Native.Nat.{ℕ, _+_, _<_, _≤_}
 use mathlib.Core.Path.{_≡_, refl, sym, ap, subst, _∙_}
 use mathlib.Core.List.{List, [], _∷_, map}
-use lib.ListN.{length, getD, drop}
+use lib.ListN.{length, getD, drop, length-drop}
 use native.Mathlib.Nat.{add-zero}
 use native.Mathlib.Omega.{arith}
 use Rattle.std.proofs.shelf.Lists.{drop-map, length-map, take-rest}
@@ -16,6 +17,7 @@ use Rattle.post_log.specs.declared.word.Word.{Word}
 use Rattle.post_log.specs.declared.word.Word.the-variants.{Floor, Head, Silence, Data}
 use Rattle.post_log.specs.Words.{word}
 use Rattle.post_log.specs.Entries.{entries, spelled, records}
+use Rattle.post_log.specs.Entries.{Splits as SplitAt}
 
 -- two words decide on the first entry
 by-two : (n : ℕ) (w v : Word) (ws : List Word) → nth (entries n (w ∷ v ∷ [])) 0 ≡ nth (entries n (w ∷ v ∷ ws)) 0
@@ -27,6 +29,12 @@ by-two n (Head t) (Head u) ws = refl
 by-two n (Head t) (Silence k) ws = refl
 by-two n (Head t) (Data None a) ws = refl
 by-two n (Head t) (Data (Some c) a) ws = refl
+
+-- an entry takes a word for each record in it
+narrow : (e : Entry) → records (e ∷ []) ≤ length (spelled e)
+narrow (FloorAt t) = omega arith
+narrow (Silent k) = omega arith
+narrow (Record t c m a) = omega arith
 
 module _ (n : ℕ) where
   -- the first entry
@@ -65,11 +73,14 @@ module _ (n : ℕ) where
   splits (Head t ∷ Data (Some c) a ∷ ws) = (refl, omega arith)
 
   -- the words after the first entry have the others
-  pub after-first : (ws : List ℕ) {e : Entry} {k m : ℕ} → Some e ≡ first (map word ws) → k ≡ length (spelled e) → m ≡ records (e ∷ []) → (entries n (map word ws) ≡ e ∷ entries (n + m) (map word (between k (length ws) ws))) × (k ≤ length ws)
-  after-first ws {e = e} {k = k} {m = m} h w r =
+  pub after-first : (ws : List ℕ) {e : Entry} {k : ℕ} → Some e ≡ first (map word ws) → k ≡ length (spelled e) → SplitAt n ws e (between k (length ws) ws) × (k ≤ length ws)
+  after-first ws {e = e} {k = k} h w =
       let s = subst (Splits (map word ws)) (sym h) (splits (map word ws)) in
       let rest : drop (length (spelled e)) (map word ws) ≡ map word (between k (length ws) ws) =
       ap (λ j. drop j (map word ws)) (sym w) ∙ drop-map word k ws ∙ ap (map word) (sym (take-rest ws k)) in (
-        s .0 ∙ ap (λ j. e ∷ entries (n + j) (drop (length (spelled e)) (map word ws))) (sym r) ∙ ap (λ v. e ∷ entries (n + m) v) rest,
+        record {
+          first = s .0 ∙ ap (λ v. e ∷ entries (n + records (e ∷ [])) v) rest;
+          fewer = omega (arith, s .1, length-map ws word, narrow e, ap length (take-rest ws k), length-drop k ws);
+        },
         omega (arith, s .1, length-map ws word),
       )

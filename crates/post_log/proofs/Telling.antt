@@ -1,22 +1,21 @@
+-- SPDX-License-Identifier: MIT OR Apache-2.0
 -- What a body that passes says.
 use Prim.Native.Nat.{ℕ, zero, suc, _+_, _<_, _≤_}
 use mathlib.Core.Path.{_≡_, refl, sym, ap, subst, _∙_}
-use mathlib.Core.Bool.{Bool, true, false, cond}
+use mathlib.Core.Bool.{true, false, cond}
 use mathlib.Core.List.{List, [], _∷_}
-use lib.Dec.{eqb, ltb}
-use lib.ListN.{length, take}
+use lib.Dec.{eqb}
+use lib.ListN.{take}
 use native.Mathlib.Nat.{add-zero, zero-add}
 use native.Mathlib.Omega.{arith}
 use Rattle.std.proofs.shelf.Ways.{tells}
 use Rattle.std.proofs.shelf.Tests.{both-ways, false≢true}
 use Rattle.std.specs.Finite.{nth}
-use Rattle.std.specs.declared.option.Option.{Option}
 use Rattle.std.specs.declared.option.Option.the-variants.{Some, None}
 use Rattle.post_log.specs.declared.class.Class.{Class}
 use Rattle.post_log.specs.declared.entry.Entry.{Entry}
 use Rattle.post_log.specs.declared.entry.Entry.the-variants.{Record, Floor as FloorAt, Silence as Silent}
 use Rattle.post_log.specs.declared.judge.Progress.{Progress}
-use Rattle.post_log.specs.declared.refusal.Refusal.{Refusal}
 use Rattle.post_log.specs.declared.word.Word.{Word}
 use Rattle.post_log.specs.declared.word.Word.the-variants.{Floor, Head, Silence, Data}
 use Rattle.post_log.specs.Classes.{rank}

@@ -1,19 +1,19 @@
+-- SPDX-License-Identifier: MIT OR Apache-2.0
 -- What the progress of a judgement says of the places that it has passed, and what one more word does to it.
 use Prim.Native.Nat.{ℕ, zero, suc, _+_, _<_, _≤_}
-use mathlib.Core.Path.{_≡_, refl, sym, ap, subst, _∙_}
+use mathlib.Core.Path.{_≡_, refl, sym, subst, _∙_}
 use mathlib.Core.Bool.{Bool, true, false, cond}
 use mathlib.Core.List.{List}
 use mathlib.Core.Logic.{_⊎_, inl, inr}
 use lib.Dec.{eqb}
 use native.Mathlib.Omega.{arith}
-use Rattle.std.proofs.shelf.Tests.{cases-lt, cases-eq, eqb-true, eqb-false, cond-both, false≢true}
+use Rattle.std.proofs.shelf.Tests.{cases-lt, eqb-true, eqb-false, cond-both, false≢true}
 use Rattle.std.specs.Finite.{nth}
-use Rattle.std.specs.declared.option.Option.{Option}
-use Rattle.std.specs.declared.option.Option.the-variants.{Some, None}
+use Rattle.std.specs.declared.option.Option.the-variants.{Some}
 use Rattle.post_log.specs.declared.class.Class.{Class}
 use Rattle.post_log.specs.declared.judge.Progress.{Progress}
 use Rattle.post_log.specs.declared.word.Word.{Word}
-use Rattle.post_log.specs.declared.word.Word.the-variants.{Floor, Head, Silence, Data}
+use Rattle.post_log.specs.declared.word.Word.the-variants.{Head}
 use Rattle.post_log.specs.Classes.{rank}
 use Rattle.post_log.specs.Rules.{before, Timed, Ends, InPlace, InTime, Stands, StandsTo}
 use Rattle.post_log.specs.Verdict.{reached, passed}

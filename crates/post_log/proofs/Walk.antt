@@ -1,9 +1,10 @@
+-- SPDX-License-Identifier: MIT OR Apache-2.0
 -- The verdict on a body, by the rules of its places.
-use Prim.Native.Nat.{ℕ, suc, _+_, _-_, _<_, _≤_}
+use Prim.Native.Nat.{ℕ, suc, _+_, _-_, _<_}
 use mathlib.Core.Path.{_≡_, refl, sym, ap, subst, _∙_}
 use mathlib.Core.Bool.{Bool, true, false, cond}
 use mathlib.Core.List.{List, [], _∷_}
-use mathlib.Core.Logic.{_⊎_, inl, inr}
+use mathlib.Core.Logic.{inl, inr}
 use lib.Dec.{eqb, ltb}
 use native.Mathlib.Nat.{add-zero, zero-add}
 use native.Mathlib.Omega.{arith}
@@ -20,7 +21,7 @@ use Rattle.post_log.specs.declared.refusal.Refusal.the-variants.{TooShort, Hea
 use Rattle.post_log.specs.declared.word.Word.{Word}
 use Rattle.post_log.specs.declared.word.Word.the-variants.{Floor, Head, Silence, Data}
 use Rattle.post_log.specs.Classes.{rank}
-use Rattle.post_log.specs.Rules.{before, Timed, Ends, Fits, InPlace, InTime, Stands, StandsTo}
+use Rattle.post_log.specs.Rules.{Timed, Ends, Fits, InPlace, InTime, Stands, StandsTo}
 use Rattle.post_log.specs.Verdict.{judged, timed, reached, passed, start, body-verdict, data-next}
 use Rattle.post_log.specs.Words.{is-data}
 use Rattle.post_log.proofs.Body.{going-on}

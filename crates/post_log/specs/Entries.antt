@@ -1,7 +1,8 @@
+-- SPDX-License-Identifier: MIT OR Apache-2.0
 -- What the words of a log's body say. Assumes nothing.
 use Prim.Native.Nat.{ℕ, _+_, _≤_, _<_}
 use mathlib.Core.Path.{_≡_}
-use mathlib.Core.List.{List, [], _∷_, _++_}
+use mathlib.Core.List.{List, [], _∷_, _++_, map}
 use lib.ListN.{take, length}
 use Rattle.std.specs.Finite.{nth}
 use Rattle.std.specs.declared.option.Option.the-variants.{Some, None}
@@ -11,6 +12,7 @@ use Rattle.post_log.specs.declared.entry.Entry.the-variants.{Record, Floor as 
 use Rattle.post_log.specs.declared.word.Word.{Word}
 use Rattle.post_log.specs.declared.word.Word.the-variants.{Floor, Head, Silence, Data}
 use Rattle.post_log.specs.Classes.{rank}
+use Rattle.post_log.specs.Words.{word}
 
 -- the entries of words in turn, up to a word that begins none; their records are numbered from n
 abbrev pub entries : ℕ → List Word → List Entry
@@ -42,6 +44,11 @@ records [] = 0
 records (FloorAt t ∷ es) = records es
 records (Silent k ∷ es) = records es
 records (Record t c n a ∷ es) = 1 + records es
+
+-- The words ws begin with the entry e, and others follow it.
+pub record Splits (n : ℕ) (ws : List ℕ) (e : Entry) (others : List ℕ) : Type 0 where
+  pub first : entries n (map word ws) ≡ e ∷ entries (n + records (e ∷ [])) (map word others)
+  pub fewer : records (e ∷ []) + length others ≤ length ws
 
 -- An entry may stand before another: no instant falls, and at one instant no class.
 abbrev pub NotAbove : Entry → Entry → Type 0

@@ -1,3 +1,4 @@
+-- SPDX-License-Identifier: MIT OR Apache-2.0
 pub mod Classes
 pub mod Words
 pub mod Refusals

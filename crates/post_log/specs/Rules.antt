@@ -1,3 +1,4 @@
+-- SPDX-License-Identifier: MIT OR Apache-2.0
 -- The rules of a log, by the places of its words. Assumes nothing.
 use Prim.Native.Nat.{ℕ, zero, suc, _+_, _/_, _<_, _≤_}
 use mathlib.Core.Path.{_≡_}
@@ -19,6 +20,7 @@ use Rattle.post_log.specs.Words.{word}
 
 -- The words of a body. Places count from its first word.
 module _ (ws : List Word) where
+  -- the word before a place
   abbrev pub before : ℕ → Option Word
   before zero = None
   before (suc i) = nth ws i
@@ -39,19 +41,22 @@ module _ (ws : List Word) where
   Fits i (Silence n) = 0 < n
   Fits i (Data c a) = (t : ℕ) × (before i ≡ Some (Head t)) × (isSome c ≡ true)
 
+  -- the word at a place, if there is one, may stand there
   abbrev pub InPlace : ℕ → Type 0
   InPlace i = (w : Word) → nth ws i ≡ Some w → Fits i w
 
+  -- the word at a place comes no earlier than those before it
   pub record InTime (i : ℕ) : Type 0 where
     -- no floor or record has an instant below an earlier one
     pub instant : (j t u : ℕ) → j < i → Timed j t → Timed i u → t ≤ u
     -- at one instant no record has a class below an earlier one
     pub class : (j t : ℕ) (c d : Class) → j < i → Ends j t c → Ends i t d → rank c ≤ rank d
 
+  -- a place keeps the rules
   abbrev pub Stands : ℕ → Type 0
   Stands i = InPlace i × InTime i
 
-  -- each place left of i keeps the rules
+  -- each place left of i does
   abbrev pub StandsTo : ℕ → Type 0
   StandsTo i = (j : ℕ) → j < i → Stands j
 
@@ -59,28 +64,31 @@ module _ (ws : List Word) where
 abbrev pub HeadWord : ℕ → Type 0
 HeadWord h = h / 0x400 ≡ 0x30_0000
 
--- Its second word is the number of words after it, of which there are few.
+-- Its second word is the number of words after it, at most 16,382.
 pub record CountWord (n : ℕ) (body : List ℕ) : Type 0 where
   pub count : n ≡ length body
   pub few : n ≤ 16382
+
+abbrev pub Headed : ℕ → ℕ → List ℕ → Type 0
+Headed h n body = HeadWord h × CountWord n body
 
 -- The words are a log.
 abbrev pub Lawful : List ℕ → Type 0
 Lawful [] = ⊥
 Lawful (h ∷ []) = ⊥
-Lawful (h ∷ n ∷ body) = HeadWord h × CountWord n body × ((i : ℕ) → Stands (map word body) i)
+Lawful (h ∷ n ∷ body) = Headed h n body × ((i : ℕ) → Stands (map word body) i)
 
 -- The words are refused, by a number and at a place that counts from the log's first word: by the header, or else at the
--- leftmost place of the body that breaks a rule, and there by its place before its time.
+-- leftmost place i of the body that breaks a rule, and there by its place before its time.
 pub data Refused : List ℕ → ℕ → ℕ → Type 0 where
   no-word : Refused [] 1 0
   one-word : {h : ℕ} → Refused (h ∷ []) 1 0
   head-word : {h n : ℕ} {body : List ℕ} → (HeadWord h → ⊥) → Refused (h ∷ n ∷ body) 2 0
   count-word : {h n : ℕ} {body : List ℕ} → HeadWord h → (CountWord n body → ⊥) → Refused (h ∷ n ∷ body) 3 1
-  misplaced : {h n : ℕ} {body : List ℕ} → HeadWord h → CountWord n body → (i : ℕ) → StandsTo (map word body) i → (InPlace (map word body) i → ⊥) → Refused (h ∷ n ∷ body) 4 (i + 2)
-  mistimed : {h n : ℕ} {body : List ℕ} → HeadWord h → CountWord n body → (i : ℕ) → StandsTo (map word body) i → InPlace (map word body) i → (InTime (map word body) i → ⊥) → Refused (h ∷ n ∷ body) 5 (i + 2)
+  misplaced : {h n : ℕ} {body : List ℕ} → Headed h n body → (i : ℕ) → StandsTo (map word body) i → (InPlace (map word body) i → ⊥) → Refused (h ∷ n ∷ body) 4 (i + 2)
+  mistimed : {h n : ℕ} {body : List ℕ} → Headed h n body → (i : ℕ) → StandsTo (map word body) i → InPlace (map word body) i → (InTime (map word body) i → ⊥) → Refused (h ∷ n ∷ body) 5 (i + 2)
 
--- The answer v to the words, a refusal or none, is the one that the rules give: no other keeps them.
+-- The answer v to the words, a refusal or none, is what the rules give, and the rules give nothing else.
 pub record Decided (ws : List ℕ) (v : Option Refusal) : Type 0 where
   pub ruled : Cases v (Lawful ws) (λ e. Refused ws (number e) (place e))
   pub accepted : Lawful ws → v ≡ None

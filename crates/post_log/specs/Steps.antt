@@ -1,5 +1,5 @@
+-- SPDX-License-Identifier: MIT OR Apache-2.0
 -- How the entries of a log are handed out. Assumes nothing.
-use Prim.Native.Nat.{ℕ}
 use mathlib.Core.Path.{_≡_}
 use mathlib.Core.List.{List, [], _∷_, map}
 use denote.Ref.{now}

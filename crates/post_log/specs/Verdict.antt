@@ -1,3 +1,4 @@
+-- SPDX-License-Identifier: MIT OR Apache-2.0
 -- How a list of words is judged, from the left. Assumes nothing.
 use Prim.Native.Nat.{ℕ, _+_, _/_}
 use mathlib.Core.Path.{_≡_}
@@ -55,15 +56,18 @@ abbrev pub body-verdict : Progress → List Word → Option Refusal
 body-verdict p [] = None
 body-verdict p (w ∷ ws) = elim (judged w (data-next ws) p) [ Ok q ↦ body-verdict q ws | Err e ↦ Some e ]
 
+-- the refusal of a header before a body of some length
+abbrev pub header-verdict : ℕ → ℕ → ℕ → Option Refusal
+header-verdict h n len =
+    cond (eqb (h / 0x400) 0x30_0000)
+    (cond (ltb 16382 n) (Some CountWord) (cond (eqb n len) None (Some CountWord)))
+    (Some HeadWord)
+
 -- why the words are no log, or nothing where they are one
 abbrev pub verdict : List ℕ → Option Refusal
 verdict [] = Some TooShort
 verdict (h ∷ []) = Some TooShort
-verdict (h ∷ n ∷ body) =
-    cond (eqb (h / 0x400) 0x30_0000)
-    (cond (ltb 16382 n) (Some CountWord)
-    (cond (eqb n (length body)) (body-verdict start (map word body)) (Some CountWord)))
-    (Some HeadWord)
+verdict (h ∷ n ∷ body) = elim (header-verdict h n (length body)) [ None ↦ body-verdict start (map word body) | Some e ↦ Some e ]
 
 -- the words are not refused
 abbrev pub Passes : List ℕ → Type 0

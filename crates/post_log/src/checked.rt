@@ -1,10 +1,10 @@
+// SPDX-License-Identifier: MIT OR Apache-2.0
 // A list of words that is known to be a log.
 ghost use mathlib.Core.Path.{_≡_};
 ghost use mathlib.Core.List.{[], _∷_};
 ghost use denote.Ref.{now};
 ghost use Prim.Native.Nat.{_≤_};
-ghost use Rattle.post_log.specs.Entries.{entries, Told};
-ghost use Rattle.post_log.specs.Rules.{Lawful};
+ghost use Rattle.post_log.specs.Entries.{entries};
 ghost use Rattle.post_log.specs.Steps.{shown};
 ghost use Rattle.post_log.specs.Verdict.{Passes};
 ghost use Rattle.post_log.specs.Words.{body, post};
@@ -34,14 +34,6 @@ impl<'a> CheckedLog<'a> {
         CheckedLog { words }
     }
 
-    // The words, as the caller passed them to `check`.
-    pub fn words(&self) -> &'a [u32]
-        ensures held { λ r. ⌜ r ≡ now (self .entry) .words ⌝ }
-        ensures lawful { λ r. ⌜ Lawful (now r) ⌝ }
-    {
-        self.words
-    }
-
     // The post that wrote the log, 0 to 1,023.
     pub fn post(&self) -> u32
         ensures value { λ r. ⌜ r ≡ post (now (now (self .entry) .words)) ⌝ }
@@ -52,11 +44,11 @@ impl<'a> CheckedLog<'a> {
 
     // What the words say.
     pub fn entries(&self) -> Entries<'a>
-        ensures all { λ r. ⌜ shown r ≡ entries 0 (body (now (now (self .entry) .words))) ⌝ }
-        ensures told { λ r. ⌜ Told (body (now (now (self .entry) .words))) ⌝ }
+        ensures { λ r. ⌜ shown r ≡ entries 0 (body (now (now (self .entry) .words))) ⌝ }
     {
+        let (_, body) = self.words.split_at(2);
         Entries {
-            unread: &self.words[2..],
+            unread: body,
             number: 0,
         }
     }

@@ -1,3 +1,4 @@
+// SPDX-License-Identifier: MIT OR Apache-2.0
 // What a record tells of.
 ghost use mathlib.Core.Path.{_≡_};
 ghost use Rattle.post_log.specs.Classes.{class, code, rank};

@@ -1,3 +1,4 @@
+// SPDX-License-Identifier: MIT OR Apache-2.0
 // The entries of a log that are still to be read.
 ghost use denote.Ref.{now};
 ghost use lib.ListN.{length};

@@ -1,11 +1,13 @@
+// SPDX-License-Identifier: MIT OR Apache-2.0
 // What the words of a log say: floors, silences and records.
 ghost use mathlib.Core.Path.{_≡_};
 ghost use mathlib.Core.List.{[], _∷_, map};
 ghost use denote.Ref.{now};
 ghost use lib.ListN.{length};
 ghost use Rattle.std.specs.Finite.{nth};
+ghost use Rattle.std.specs.Options.{Cases};
 ghost use Rattle.std.specs.Vec.{listOf};
-ghost use Rattle.post_log.specs.Entries.{entries, spelled, records};
+ghost use Rattle.post_log.specs.Entries.{entries, spelled, records, Splits};
 ghost use Rattle.post_log.specs.Words.{word};
 use crate::class::Class;
 use crate::word::Word;
@@ -30,8 +32,16 @@ pub enum Entry {
 }
 
 impl Entry {
+    // The first entry of words, and the words after it; a record gets the number.
+    pub(crate) fn split_first(words: &[u32], number: u32) -> Option<(Entry, &[u32])>
+        ensures { λ r. ⌜ Cases r (entries number (map word (now (words .entry))) ≡ []) (λ x. Splits number (now (words .entry)) (x .0) (now (x .1))) ⌝ }
+    {
+        let entry = Entry::first(words, number)?;
+        Some((entry, &words[entry.width()..]))
+    }
+
     // The entry that the words begin with, if they begin with one; a record gets the number.
-    pub fn first(words: &[u32], number: u32) -> Option<Entry>
+    fn first(words: &[u32], number: u32) -> Option<Entry>
         ensures { λ r. ⌜ r ≡ nth (entries number (map word (now (words .entry)))) 0 ⌝ }
     {
         match words {
@@ -69,7 +79,7 @@ impl Entry {
     }
 
     // How many words the entry takes.
-    pub fn width(self) -> usize
+    fn width(self) -> usize
         ensures { λ r. ⌜ r ≡ length (spelled self) ⌝ }
     {
         match self {
@@ -79,7 +89,7 @@ impl Entry {
     }
 
     // One for a record, and else none.
-    pub fn records(self) -> u32
+    pub(crate) fn records(self) -> u32
         ensures { λ r. ⌜ r ≡ records (self ∷ []) ⌝ }
     {
         match self {

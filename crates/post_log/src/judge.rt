@@ -1,3 +1,4 @@
+// SPDX-License-Identifier: MIT OR Apache-2.0
 // The check of a log.
 ghost use mathlib.Core.Path.{_≡_};
 ghost use mathlib.Core.List.{map};
@@ -7,7 +8,7 @@ ghost use Prim.Native.Nat.{_^_, _<_, _≤_};
 ghost use Rattle.std.specs.Results.{Cases, errPart};
 ghost use Rattle.post_log.specs.Entries.{Told};
 ghost use Rattle.post_log.specs.Rules.{Decided};
-ghost use Rattle.post_log.specs.Verdict.{judged, start, reached, passed, body-verdict, verdict, data-next};
+ghost use Rattle.post_log.specs.Verdict.{judged, start, reached, passed, header-verdict, body-verdict, verdict, data-next};
 ghost use Rattle.post_log.specs.Words.{word, body};
 use crate::checked::CheckedLog;
 use crate::refusal::Refusal;
@@ -124,6 +125,32 @@ fn judge_body(body: &[u32]) -> Result<(), Refusal>
     Ok(())
 }
 
+// Judges the first two words, before a body of some length.
+fn judge_header(head: u32, count: u32, length: usize) -> Result<(), Refusal>
+    ensures { λ r. ⌜ errPart r ≡ header-verdict head count length ⌝ }
+{
+    if head >> 10 != HEADER {
+        return Err(Refusal::HeadWord);
+    }
+    if count > MOST || count as usize != length {
+        return Err(Refusal::CountWord);
+    }
+    Ok(())
+}
+
+// Why the words are no log, if they are none.
+fn judge_log(words: &[u32]) -> Result<(), Refusal>
+    ensures value { λ r. ⌜ errPart r ≡ verdict (now (words .entry)) ⌝ }
+    ensures decided { λ r. ⌜ Decided (now (words .entry)) (errPart r) ⌝ }
+    ensures told { λ r. ⌜ Cases r (λ _. Told (body (now (words .entry)))) (λ _. Unit {0}) ⌝ }
+{
+    let [head, count, body @ ..] = words else {
+        return Err(Refusal::TooShort);
+    };
+    judge_header(*head, *count, body.len())?;
+    judge_body(body)
+}
+
 // Fills `into` with the words if they are a log, and else leaves it as it was.
 pub fn check<'a>(words: &'a [u32], into: &mut CheckedLog<'a>) -> Result<(), Refusal>
     // the refusal that the judgement from the left comes to, if any
@@ -134,16 +161,7 @@ pub fn check<'a>(words: &'a [u32], into: &mut CheckedLog<'a>) -> Result<(), Refu
     ensures told { λ r. ⌜ Cases r (λ _. Told (body (now (words .entry)))) (λ _. Unit {0}) ⌝ }
     ensures filled { λ r. ⌜ Cases r (λ _. now (into .exit) .words ≡ words .entry) (λ _. now (into .exit) ≡ now (into .entry)) ⌝ }
 {
-    let [head, count, body @ ..] = words else {
-        return Err(Refusal::TooShort);
-    };
-    if *head >> 10 != HEADER {
-        return Err(Refusal::HeadWord);
-    }
-    if *count > MOST || *count as usize != body.len() {
-        return Err(Refusal::CountWord);
-    }
-    judge_body(body)?;
+    judge_log(words)?;
     *into = CheckedLog::of(words);
     Ok(())
 }

@@ -1,3 +1,4 @@
+// SPDX-License-Identifier: MIT OR Apache-2.0
 // The words of a charging post's log, and the check that a list of words is a lawful log.
 mod checked;
 mod class;

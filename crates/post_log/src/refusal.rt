@@ -1,3 +1,4 @@
+// SPDX-License-Identifier: MIT OR Apache-2.0
 // Why a list of words is no log.
 ghost use mathlib.Core.Path.{_≡_};
 ghost use Rattle.post_log.specs.Refusals.{number, place};

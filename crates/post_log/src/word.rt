@@ -1,3 +1,4 @@
+// SPDX-License-Identifier: MIT OR Apache-2.0
 // A word of a log's body, taken apart by its kind, which is its two highest bits.
 ghost use mathlib.Core.Path.{_≡_};
 ghost use Rattle.post_log.specs.Words.{word, is-data};
@@ -31,7 +32,7 @@ impl Word {
         }
     }
 
-    pub fn is_data(self) -> bool
+    pub(crate) fn is_data(self) -> bool
         ensures { λ r. ⌜ r ≡ is-data self ⌝ }
     {
         matches!(self, Word::Data { .. })

@@ -1,3 +1,4 @@
+// SPDX-License-Identifier: MIT OR Apache-2.0
 // One entry after the other.
 ghost use lib.ListN.{length};
 ghost use Rattle.post_log.specs.Steps.{Steps, shown};
@@ -14,9 +15,9 @@ pub impl<'a> Iterator for Entries<'a> as EntriesIterator {
     ghost left = { λ s. length (shown s) };
 
     fn next(&mut self) -> Option<Entry> {
-        let entry = Entry::first(self.unread, self.number)?;
+        let (entry, rest) = Entry::split_first(self.unread, self.number)?;
         self.number += entry.records();
-        self.unread = &self.unread[entry.width()..];
+        self.unread = rest;
         Some(entry)
     }
 }
