@@ -13,15 +13,15 @@ use Rattle.std.specs.declared.result.Result.the-variants.{Err}
 use Rattle.post_log.specs.declared.refusal.Refusal.{Refusal}
 use Rattle.post_log.specs.Verdict.{verdict}
 use Rattle.feed.specs.declared.failure.Failure.the-variants.{Refused, MoreLogs}
-use Rattle.feed.specs.Inputs.{words, first-log, later-words}
+use Rattle.feed.specs.Inputs.{words-of, first-log, later-words}
 use Rattle.feed.specs.Outcomes.{listed, judged, outcome}
 
 -- an input in fours, and not too long, whose first log passes
-pub passing : (bytes ws log later : List ℕ) → length bytes ≤ 65536 → length bytes % 4 ≡ 0 → ws ≡ words bytes → log ≡ first-log ws → later ≡ later-words ws → None ≡ verdict log → outcome bytes ≡ listed log later
+pub passing : (bytes ws log later : List ℕ) → length bytes ≤ 65536 → length bytes % 4 ≡ 0 → ws ≡ words-of bytes → log ≡ first-log ws → later ≡ later-words ws → None ≡ verdict log → outcome bytes ≡ listed log later
 passing bytes ws log later small fours e f g passes =
     let short : ltb 65536 (length bytes) ≡ false = le-ltb 65536 (length bytes) small in
     let whole : eqb (length bytes % 4) 0 ≡ true = eq-eqb (length bytes % 4) 0 fours in
-    let start : outcome bytes ≡ judged (first-log (words bytes)) (later-words (words bytes)) = simp (short, whole) in
+    let start : outcome bytes ≡ judged (first-log (words-of bytes)) (later-words (words-of bytes)) = simp (short, whole) in
     start
     ∙ sym (ap (λ v. judged (first-log v) (later-words v)) e)
     ∙ sym (ap (λ v. judged v (later-words ws)) f)

@@ -5,12 +5,12 @@ use mathlib.Core.List.{List, [], _∷_}
 use lib.ListN.{length, take, drop}
 
 -- four bytes to a word, the highest first
-abbrev pub words : List ℕ → List ℕ
-words [] = []
-words (a ∷ []) = []
-words (a ∷ b ∷ []) = []
-words (a ∷ b ∷ c ∷ []) = []
-words (a ∷ b ∷ c ∷ d ∷ bs) = (a * 0x100_0000 + b * 0x1_0000 + c * 0x100 + d) ∷ words bs
+abbrev pub words-of : List ℕ → List ℕ
+words-of [] = []
+words-of (a ∷ []) = []
+words-of (a ∷ b ∷ []) = []
+words-of (a ∷ b ∷ c ∷ []) = []
+words-of (a ∷ b ∷ c ∷ d ∷ bs) = (a * 0x100_0000 + b * 0x1_0000 + c * 0x100 + d) ∷ words-of bs
 
 -- the bytes of words, four each, the highest first
 abbrev pub spelled : List ℕ → List ℕ

@@ -17,7 +17,7 @@ use Rattle.post_log.specs.Verdict.{verdict}
 use Rattle.post_log.specs.Words.{post, body}
 use Rattle.feed.specs.declared.failure.Failure.{Failure}
 use Rattle.feed.specs.declared.failure.Failure.the-variants.{Refused, TooLong, NotWords, MoreLogs, NoMemory}
-use Rattle.feed.specs.Inputs.{words, spelled, first-log, later-words}
+use Rattle.feed.specs.Inputs.{words-of, spelled, first-log, later-words}
 use Rattle.feed.specs.Lines.{listing}
 
 -- the listing of a log that passes, with no words after it
@@ -34,17 +34,17 @@ abbrev pub outcome : List ℕ → Result (List ℕ) Failure
 outcome bytes =
     cond (ltb 65536 (length bytes)) (Err TooLong)
     (cond (eqb (length bytes % 4) 0)
-    (judged (first-log (words bytes)) (later-words (words bytes)))
+    (judged (first-log (words-of bytes)) (later-words (words-of bytes)))
     (Err NotWords))
 
 -- The input is words, and the first log in them is one that says what its words spell.
 abbrev pub Read : List ℕ → Type 0
-Read bytes = (spelled (words bytes) ≡ bytes) × Lawful (first-log (words bytes)) × Told (body (first-log (words bytes)))
+Read bytes = (spelled (words-of bytes) ≡ bytes) × Lawful (first-log (words-of bytes)) × Told (body (first-log (words-of bytes)))
 
 -- In the words of the rules: what is listed is read so, and what is refused breaks the rule that its number and place name.
 abbrev pub Ruled : List ℕ → Result (List ℕ) Failure → Type 0
 Ruled bytes (Ok text) = Read bytes
-Ruled bytes (Err (Refused e)) = rules.Refused (first-log (words bytes)) (number e) (place e)
+Ruled bytes (Err (Refused e)) = rules.Refused (first-log (words-of bytes)) (number e) (place e)
 Ruled bytes (Err MoreLogs) = Read bytes
 Ruled bytes (Err TooLong) = 65536 < length bytes
 Ruled bytes (Err NotWords) = length bytes % 4 ≡ 0 → ⊥

@@ -6,7 +6,7 @@ ghost use lib.ListN.{length};
 ghost use Prim.Native.Nat.{_+_, _*_, _%_};
 ghost use Rattle.std.specs.Of.Vec.{vec-items};
 ghost use Rattle.std.specs.Vec.{made};
-ghost use Rattle.feed.specs.Inputs.{words, spelled, first-log, later-words};
+ghost use Rattle.feed.specs.Inputs.{words-of, spelled, first-log, later-words};
 use std::alloc::AllocError;
 use std::alloc::Global;
 
@@ -19,7 +19,7 @@ fn word(a: u8, b: u8, c: u8, d: u8) -> u32
 
 // The words in bytes; fewer at the end make none.
 pub(crate) fn words(heap: Global, bytes: &[u8]) -> Result<Vec<u32>, AllocError>
-    ensures value { λ r. ⌜ made r (λ v. vec-items v ≡ words (now (bytes .entry))) ⌝ }
+    ensures value { λ r. ⌜ made r (λ v. vec-items v ≡ words-of (now (bytes .entry))) ⌝ }
     ensures whole { λ r. ⌜ made r (λ v. length (now (bytes .entry)) % 4 ≡ 0 → spelled (vec-items v) ≡ now (bytes .entry)) ⌝ }
 {
     let mut words = Vec::with_capacity(heap, bytes.len() / 4)?;

@@ -11,12 +11,12 @@ use Rattle.std.specs.declared.option.Option.{Option}
 use Rattle.std.specs.declared.option.Option.the-variants.{Some, None}
 use Rattle.post_log.specs.declared.refusal.Refusal.{Refusal}
 use Rattle.post_log.specs.declared.refusal.Refusal.the-variants.{TooShort}
-use Rattle.post_log.specs.Words.{word}
+use Rattle.post_log.specs.Words.{word-of}
 use Rattle.post_log.specs.Verdict.{verdict, header-verdict, body-verdict, start}
 
 -- the verdict on a header, and else on the words after it
 abbrev pub going-on : List ℕ → Option Refusal → Option Refusal
-going-on ws v = elim v [ None ↦ body-verdict start (map word ws) | Some e ↦ Some e ]
+going-on ws v = elim v [ None ↦ body-verdict start (map word-of ws) | Some e ↦ Some e ]
 
 pub too-short : (ws : List ℕ) → length ws ≤ 1 → Some TooShort ≡ verdict ws
 too-short [] h = refl

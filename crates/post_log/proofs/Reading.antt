@@ -15,7 +15,7 @@ use Rattle.post_log.specs.declared.entry.Entry.{Entry}
 use Rattle.post_log.specs.declared.entry.Entry.the-variants.{Record, Floor as FloorAt, Silence as Silent}
 use Rattle.post_log.specs.declared.word.Word.{Word}
 use Rattle.post_log.specs.declared.word.Word.the-variants.{Floor, Head, Silence, Data}
-use Rattle.post_log.specs.Words.{word}
+use Rattle.post_log.specs.Words.{word-of}
 use Rattle.post_log.specs.Entries.{entries, spelled, records}
 use Rattle.post_log.specs.Entries.{Splits as SplitAt}
 
@@ -41,19 +41,19 @@ module _ (n : ℕ) where
   abbrev pub first : List Word → Option Entry
   first ws = nth (entries n ws) 0
 
-  pub first-of-none : (ws : List ℕ) → length ws < 1 → None ≡ first (map word ws)
+  pub first-of-none : (ws : List ℕ) → length ws < 1 → None ≡ first (map word-of ws)
   first-of-none [] h = refl
   first-of-none (w ∷ ws) h = grind arith
 
-  pub first-of-one : (ws : List ℕ) (w : Word) → length ws ≡ 1 → w ≡ word (getD ws 0 0) → first (w ∷ []) ≡ first (map word ws)
+  pub first-of-one : (ws : List ℕ) (w : Word) → length ws ≡ 1 → w ≡ word-of (getD ws 0 0) → first (w ∷ []) ≡ first (map word-of ws)
   first-of-one [] w h e = grind arith
   first-of-one (b ∷ []) w h e = ap (λ v. first (v ∷ [])) e
   first-of-one (b ∷ d ∷ ws) w h e = grind arith
 
-  pub first-of-more : (ws : List ℕ) (w v : Word) → 2 ≤ length ws → w ≡ word (getD ws 0 0) → v ≡ word (getD ws 1 0) → first (w ∷ v ∷ []) ≡ first (map word ws)
+  pub first-of-more : (ws : List ℕ) (w v : Word) → 2 ≤ length ws → w ≡ word-of (getD ws 0 0) → v ≡ word-of (getD ws 1 0) → first (w ∷ v ∷ []) ≡ first (map word-of ws)
   first-of-more [] w v h e f = grind arith
   first-of-more (b ∷ []) w v h e f = grind arith
-  first-of-more (b ∷ d ∷ ws) w v h e f = ap (λ x. first (x ∷ v ∷ [])) e ∙ ap (λ x. first (word b ∷ x ∷ [])) f ∙ by-two n (word b) (word d) (map word ws)
+  first-of-more (b ∷ d ∷ ws) w v h e f = ap (λ x. first (x ∷ v ∷ [])) e ∙ ap (λ x. first (word-of b ∷ x ∷ [])) f ∙ by-two n (word-of b) (word-of d) (map word-of ws)
 
   -- an entry, and those of the words after it
   abbrev Splits : List Word → Option Entry → Type 0
@@ -73,14 +73,14 @@ module _ (n : ℕ) where
   splits (Head t ∷ Data (Some c) a ∷ ws) = (refl, omega arith)
 
   -- the words after the first entry have the others
-  pub after-first : (ws : List ℕ) {e : Entry} {k : ℕ} → Some e ≡ first (map word ws) → k ≡ length (spelled e) → SplitAt n ws e (between k (length ws) ws) × (k ≤ length ws)
+  pub after-first : (ws : List ℕ) {e : Entry} {k : ℕ} → Some e ≡ first (map word-of ws) → k ≡ length (spelled e) → SplitAt n ws e (between k (length ws) ws) × (k ≤ length ws)
   after-first ws {e = e} {k = k} h w =
-      let s = subst (Splits (map word ws)) (sym h) (splits (map word ws)) in
-      let rest : drop (length (spelled e)) (map word ws) ≡ map word (between k (length ws) ws) =
-      ap (λ j. drop j (map word ws)) (sym w) ∙ drop-map word k ws ∙ ap (map word) (sym (take-rest ws k)) in (
+      let s = subst (Splits (map word-of ws)) (sym h) (splits (map word-of ws)) in
+      let rest : drop (length (spelled e)) (map word-of ws) ≡ map word-of (between k (length ws) ws) =
+      ap (λ j. drop j (map word-of ws)) (sym w) ∙ drop-map word-of k ws ∙ ap (map word-of) (sym (take-rest ws k)) in (
         record {
           first = s .0 ∙ ap (λ v. e ∷ entries (n + records (e ∷ [])) v) rest;
-          fewer = omega (arith, s .1, length-map ws word, narrow e, ap length (take-rest ws k), length-drop k ws);
+          fewer = omega (arith, s .1, length-map ws word-of, narrow e, ap length (take-rest ws k), length-drop k ws);
         },
-        omega (arith, s .1, length-map ws word),
+        omega (arith, s .1, length-map ws word-of),
       )

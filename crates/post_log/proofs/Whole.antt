@@ -22,7 +22,7 @@ use Rattle.post_log.specs.declared.refusal.Refusal.the-variants.{TooShort, Hea
 use Rattle.post_log.specs.declared.word.Word.{Word}
 use Rattle.post_log.specs.Refusals.{number, place}
 use Rattle.post_log.specs.Rules.{Lawful, Refused, no-word, one-word, head-word, count-word, misplaced, mistimed, Decided, Headed, Stands, StandsTo, InPlace}
-use Rattle.post_log.specs.Words.{word, body}
+use Rattle.post_log.specs.Words.{word-of, body}
 use Rattle.post_log.specs.Verdict.{verdict, body-verdict, start}
 use Rattle.post_log.specs.Entries.{Told}
 use Rattle.post_log.proofs.Header.{going-on}
@@ -33,7 +33,7 @@ abbrev Ruled : List ℕ → Option Refusal → Type 0
 Ruled ws v = Cases v (Lawful ws) (λ e. Refused ws (number e) (place e))
 
 module _ (h n : ℕ) (body : List ℕ) (headed : Headed h n body) where
-  by-body : (v : Option Refusal) → Says (map word body) v → Ruled (h ∷ n ∷ body) v
+  by-body : (v : Option Refusal) → Says (map word-of body) v → Ruled (h ∷ n ∷ body) v
   by-body None s = (headed, s)
   by-body (Some TooShort) s = absurd s
   by-body (Some HeadWord) s = absurd s
@@ -51,7 +51,7 @@ by-header h n body =
     (λ many. count-word head (λ c. let few = c .few in omega (arith, ltb-true 16382 n many)))
     (λ few.
     cond-both (eqb n (length body)) None (Some CountWord) P
-    (λ same. by-body h n body (head, record { count = eqb-true n (length body) same; few = ltb-false 16382 n few }) (body-verdict start (map word body)) (says (map word body)))
+    (λ same. by-body h n body (head, record { count = eqb-true n (length body) same; few = ltb-false 16382 n few }) (body-verdict start (map word-of body)) (says (map word-of body)))
     (λ other. count-word head (λ c. eqb-false n (length body) other (c .count)))))
     (λ z. head-word (eqb-false (h / 0x400) 0x30_0000 z))
 
@@ -80,15 +80,15 @@ one-refusal (count-word h a) (mistimed k i s l b) = absurd (a (k .1))
 one-refusal (misplaced h i s a) (head-word b) = absurd (b (h .0))
 one-refusal (misplaced h i s a) (count-word k b) = absurd (b (h .1))
 one-refusal {ws = w ∷ n ∷ body} (misplaced h i s a) (misplaced k j t b) =
-    (refl, ap (λ x. x + 2) (one-place (map word body) i j s t (λ x. a (x .0)) (λ x. b (x .0))))
+    (refl, ap (λ x. x + 2) (one-place (map word-of body) i j s t (λ x. a (x .0)) (λ x. b (x .0))))
 one-refusal {ws = w ∷ n ∷ body} (misplaced h i s a) (mistimed k j t l b) =
-    let e = one-place (map word body) i j s t (λ x. a (x .0)) (λ x. b (x .1)) in absurd (a (subst (InPlace (map word body)) (sym e) l))
+    let e = one-place (map word-of body) i j s t (λ x. a (x .0)) (λ x. b (x .1)) in absurd (a (subst (InPlace (map word-of body)) (sym e) l))
 one-refusal (mistimed h i s l a) (head-word b) = absurd (b (h .0))
 one-refusal (mistimed h i s l a) (count-word k b) = absurd (b (h .1))
 one-refusal {ws = w ∷ n ∷ body} (mistimed h i s l a) (misplaced k j t b) =
-    let e = one-place (map word body) i j s t (λ x. a (x .1)) (λ x. b (x .0)) in absurd (b (subst (InPlace (map word body)) e l))
+    let e = one-place (map word-of body) i j s t (λ x. a (x .1)) (λ x. b (x .0)) in absurd (b (subst (InPlace (map word-of body)) e l))
 one-refusal {ws = w ∷ n ∷ body} (mistimed h i s l a) (mistimed k j t m b) =
-    (refl, ap (λ x. x + 2) (one-place (map word body) i j s t (λ x. a (x .1)) (λ x. b (x .1))))
+    (refl, ap (λ x. x + 2) (one-place (map word-of body) i j s t (λ x. a (x .1)) (λ x. b (x .1))))
 
 -- and none of a log
 unrefused : {ws : List ℕ} {n p : ℕ} → Lawful ws → Refused ws n p → ⊥

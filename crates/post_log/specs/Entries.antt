@@ -12,7 +12,7 @@ use Rattle.post_log.specs.declared.entry.Entry.the-variants.{Record, Floor as 
 use Rattle.post_log.specs.declared.word.Word.{Word}
 use Rattle.post_log.specs.declared.word.Word.the-variants.{Floor, Head, Silence, Data}
 use Rattle.post_log.specs.Classes.{rank}
-use Rattle.post_log.specs.Words.{word}
+use Rattle.post_log.specs.Words.{word-of}
 
 -- the entries of words in turn, up to a word that begins none; their records are numbered from n
 abbrev pub entries : ℕ → List Word → List Entry
@@ -47,7 +47,7 @@ records (Record t c n a ∷ es) = 1 + records es
 
 -- The words ws begin with the entry e, and others follow it.
 pub record Splits (n : ℕ) (ws : List ℕ) (e : Entry) (others : List ℕ) : Type 0 where
-  pub first : entries n (map word ws) ≡ e ∷ entries (n + records (e ∷ [])) (map word others)
+  pub first : entries n (map word-of ws) ≡ e ∷ entries (n + records (e ∷ [])) (map word-of others)
   pub fewer : records (e ∷ []) + length others ≤ length ws
 
 -- An entry may stand before another: no instant falls, and at one instant no class.

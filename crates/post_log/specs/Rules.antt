@@ -16,7 +16,7 @@ use Rattle.post_log.specs.declared.word.Word.{Word}
 use Rattle.post_log.specs.declared.word.Word.the-variants.{Floor, Head, Silence, Data}
 use Rattle.post_log.specs.Classes.{rank}
 use Rattle.post_log.specs.Refusals.{number, place}
-use Rattle.post_log.specs.Words.{word}
+use Rattle.post_log.specs.Words.{word-of}
 
 -- The words of a body. Places count from its first word.
 module _ (ws : List Word) where
@@ -76,7 +76,7 @@ Headed h n body = HeadWord h × CountWord n body
 abbrev pub Lawful : List ℕ → Type 0
 Lawful [] = ⊥
 Lawful (h ∷ []) = ⊥
-Lawful (h ∷ n ∷ body) = Headed h n body × ((i : ℕ) → Stands (map word body) i)
+Lawful (h ∷ n ∷ body) = Headed h n body × ((i : ℕ) → Stands (map word-of body) i)
 
 -- The words are refused, by a number and at a place that counts from the log's first word: by the header, or else at the
 -- leftmost place i of the body that breaks a rule, and there by its place before its time.
@@ -85,8 +85,8 @@ pub data Refused : List ℕ → ℕ → ℕ → Type 0 where
   one-word : {h : ℕ} → Refused (h ∷ []) 1 0
   head-word : {h n : ℕ} {body : List ℕ} → (HeadWord h → ⊥) → Refused (h ∷ n ∷ body) 2 0
   count-word : {h n : ℕ} {body : List ℕ} → HeadWord h → (CountWord n body → ⊥) → Refused (h ∷ n ∷ body) 3 1
-  misplaced : {h n : ℕ} {body : List ℕ} → Headed h n body → (i : ℕ) → StandsTo (map word body) i → (InPlace (map word body) i → ⊥) → Refused (h ∷ n ∷ body) 4 (i + 2)
-  mistimed : {h n : ℕ} {body : List ℕ} → Headed h n body → (i : ℕ) → StandsTo (map word body) i → InPlace (map word body) i → (InTime (map word body) i → ⊥) → Refused (h ∷ n ∷ body) 5 (i + 2)
+  misplaced : {h n : ℕ} {body : List ℕ} → Headed h n body → (i : ℕ) → StandsTo (map word-of body) i → (InPlace (map word-of body) i → ⊥) → Refused (h ∷ n ∷ body) 4 (i + 2)
+  mistimed : {h n : ℕ} {body : List ℕ} → Headed h n body → (i : ℕ) → StandsTo (map word-of body) i → InPlace (map word-of body) i → (InTime (map word-of body) i → ⊥) → Refused (h ∷ n ∷ body) 5 (i + 2)
 
 -- The answer v to the words, a refusal or none, is what the rules give, and the rules give nothing else.
 pub record Decided (ws : List ℕ) (v : Option Refusal) : Type 0 where

@@ -8,11 +8,11 @@ use Rattle.std.specs.declared.option.Option.{Option}
 use Rattle.post_log.specs.declared.entry.Entry.{Entry}
 use Rattle.post_log.specs.declared.entries.Entries.{Entries}
 use Rattle.post_log.specs.Entries.{entries}
-use Rattle.post_log.specs.Words.{word}
+use Rattle.post_log.specs.Words.{word-of}
 
 -- what is still to be handed out
 abbrev pub shown : Entries → List Entry
-shown s = entries (s .number) (map word (now (s .unread)))
+shown s = entries (s .number) (map word-of (now (s .unread)))
 
 -- the next one is the first of these
 abbrev pub Steps : Entries → Option Entry → Entries → Type 0

@@ -17,7 +17,7 @@ use Rattle.post_log.specs.declared.refusal.Refusal.the-variants.{TooShort, Hea
 use Rattle.post_log.specs.declared.word.Word.{Word}
 use Rattle.post_log.specs.declared.word.Word.the-variants.{Floor, Head, Silence, Data}
 use Rattle.post_log.specs.Classes.{rank}
-use Rattle.post_log.specs.Words.{word, is-data}
+use Rattle.post_log.specs.Words.{word-of, is-data}
 
 -- before the first word of a body
 abbrev pub start : Progress
@@ -67,7 +67,7 @@ header-verdict h n len =
 abbrev pub verdict : List ℕ → Option Refusal
 verdict [] = Some TooShort
 verdict (h ∷ []) = Some TooShort
-verdict (h ∷ n ∷ body) = elim (header-verdict h n (length body)) [ None ↦ body-verdict start (map word body) | Some e ↦ Some e ]
+verdict (h ∷ n ∷ body) = elim (header-verdict h n (length body)) [ None ↦ body-verdict start (map word-of body) | Some e ↦ Some e ]
 
 -- the words are not refused
 abbrev pub Passes : List ℕ → Type 0

@@ -18,8 +18,8 @@ abbrev pub low : ℕ → ℕ
 low w = w % 0x4000_0000
 
 -- a word of a body by its kind; in data, bits 29 and 28 are the class and the others the amount
-abbrev pub word : ℕ → Word
-word w =
+abbrev pub word-of : ℕ → Word
+word-of w =
     cond (eqb (kind w) 0) (Floor (low w))
     (cond (eqb (kind w) 1) (Head (low w))
     (cond (eqb (kind w) 2) (Silence (low w))
@@ -37,4 +37,4 @@ post ws = getD ws 0 0 % 0x400
 
 -- the words after the header
 abbrev pub body : List ℕ → List Word
-body ws = map word (drop 2 ws)
+body ws = map word-of (drop 2 ws)

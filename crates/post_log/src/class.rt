@@ -11,11 +11,11 @@ pub enum Class {
 }
 
 impl Class {
-    // The class that a code names; 3 and above name none.
-    pub fn from_code(code: u32) -> Option<Class>
-        ensures { λ r. ⌜ r ≡ class code ⌝ }
+    // The class that has the code n; from 3 on none has.
+    pub fn from_code(n: u32) -> Option<Class>
+        ensures { λ r. ⌜ r ≡ class n ⌝ }
     {
-        match code {
+        match n {
             0 => Some(Class::Tariff),
             1 => Some(Class::Reading),
             2 => Some(Class::PlugEvent),

@@ -8,17 +8,17 @@ ghost use Rattle.std.specs.Finite.{nth};
 ghost use Rattle.std.specs.Options.{Cases};
 ghost use Rattle.std.specs.Vec.{listOf};
 ghost use Rattle.post_log.specs.Entries.{entries, spelled, records, Splits};
-ghost use Rattle.post_log.specs.Words.{word};
+ghost use Rattle.post_log.specs.Words.{word-of};
 use crate::class::Class;
 use crate::word::Word;
 
 #[derive(Clone, Copy)]
 pub enum Entry {
-    // no record to come has a lower instant
+    // no floor or record after it has a lower instant
     Floor {
         instant: u32,
     },
-    // how many polls stay unanswered
+    // for how many polls the post does not answer
     Silence {
         polls: u32,
     },
@@ -34,7 +34,7 @@ pub enum Entry {
 impl Entry {
     // The first entry of words, and the words after it; a record gets the number.
     pub(crate) fn split_first(words: &[u32], number: u32) -> Option<(Entry, &[u32])>
-        ensures { λ r. ⌜ Cases r (entries number (map word (now (words .entry))) ≡ []) (λ x. Splits number (now (words .entry)) (x .0) (now (x .1))) ⌝ }
+        ensures { λ r. ⌜ Cases r (entries number (map word-of (now (words .entry))) ≡ []) (λ x. Splits number (now (words .entry)) (x .0) (now (x .1))) ⌝ }
     {
         let entry = Entry::first(words, number)?;
         Some((entry, &words[entry.width()..]))
@@ -42,7 +42,7 @@ impl Entry {
 
     // The entry that the words begin with, if they begin with one; a record gets the number.
     fn first(words: &[u32], number: u32) -> Option<Entry>
-        ensures { λ r. ⌜ r ≡ nth (entries number (map word (now (words .entry)))) 0 ⌝ }
+        ensures { λ r. ⌜ r ≡ nth (entries number (map word-of (now (words .entry)))) 0 ⌝ }
     {
         match words {
             [] => None,

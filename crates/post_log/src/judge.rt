@@ -9,7 +9,7 @@ ghost use Rattle.std.specs.Results.{Cases, errPart};
 ghost use Rattle.post_log.specs.Entries.{Told};
 ghost use Rattle.post_log.specs.Rules.{Decided};
 ghost use Rattle.post_log.specs.Verdict.{judged, start, reached, passed, header-verdict, body-verdict, verdict, data-next};
-ghost use Rattle.post_log.specs.Words.{word, body};
+ghost use Rattle.post_log.specs.Words.{word-of, body};
 use crate::checked::CheckedLog;
 use crate::refusal::Refusal;
 use crate::word::Word;
@@ -104,7 +104,7 @@ impl Progress {
 
 // Whether the words begin with data.
 fn data_next(words: &[u32]) -> bool
-    ensures { λ r. ⌜ r ≡ data-next (map word (now (words .entry))) ⌝ }
+    ensures { λ r. ⌜ r ≡ data-next (map word-of (now (words .entry))) ⌝ }
 {
     match words {
         [] => false,
@@ -114,7 +114,7 @@ fn data_next(words: &[u32]) -> bool
 
 fn judge_body(body: &[u32]) -> Result<(), Refusal>
     requires { ⌜ length (now body) ≤ 16382 ⌝ }
-    ensures { λ r. ⌜ errPart r ≡ body-verdict start (map word (now (body .entry))) ⌝ }
+    ensures { λ r. ⌜ errPart r ≡ body-verdict start (map word-of (now (body .entry))) ⌝ }
 {
     let mut progress = Progress::new();
     let mut rest = body;
@@ -126,13 +126,13 @@ fn judge_body(body: &[u32]) -> Result<(), Refusal>
 }
 
 // Judges the first two words, before a body of some length.
-fn judge_header(head: u32, count: u32, length: usize) -> Result<(), Refusal>
-    ensures { λ r. ⌜ errPart r ≡ header-verdict head count length ⌝ }
+fn judge_header(head: u32, count: u32, len: usize) -> Result<(), Refusal>
+    ensures { λ r. ⌜ errPart r ≡ header-verdict head count len ⌝ }
 {
     if head >> 10 != HEADER {
         return Err(Refusal::HeadWord);
     }
-    if count > MOST || count as usize != length {
+    if count > MOST || count as usize != len {
         return Err(Refusal::CountWord);
     }
     Ok(())

@@ -1,24 +1,24 @@
 // SPDX-License-Identifier: MIT OR Apache-2.0
 // A word of a log's body, taken apart by its kind, which is its two highest bits.
 ghost use mathlib.Core.Path.{_≡_};
-ghost use Rattle.post_log.specs.Words.{word, is-data};
+ghost use Rattle.post_log.specs.Words.{word-of, is-data};
 use crate::class::Class;
 
 #[derive(Clone, Copy)]
 pub enum Word {
-    // no record to come has a lower instant
+    // a floor: no floor or record after it has a lower instant
     Floor { instant: u32 },
-    // begins a record; its data word follows
+    // the head of a record, whose data word follows
     Head { instant: u32 },
-    // how many polls stay unanswered
+    // a silence: for how many polls the post does not answer
     Silence { polls: u32 },
-    // ends a record; class 3 is none
+    // the data of a record; class 3 is none
     Data { class: Option<Class>, amount: u32 },
 }
 
 impl Word {
     pub fn from_bits(bits: u32) -> Word
-        ensures { λ r. ⌜ r ≡ word bits ⌝ }
+        ensures { λ r. ⌜ r ≡ word-of bits ⌝ }
     {
         let low = bits % 0x4000_0000;
         match bits >> 30 {

@@ -6,7 +6,7 @@ use lib.ListN.{length}
 use native.Mathlib.Omega.{arith}
 use borrow.Author.Tests.{ltb-true, ltb-false}
 use Rattle.std.proofs.shelf.Lists.{nil-from-length}
-use Rattle.post_log.specs.Words.{word, is-data}
+use Rattle.post_log.specs.Words.{word-of, is-data}
 use Rattle.post_log.specs.Verdict.{data-next}
 use Rattle.post_log.proofs.Body.{first-data}
 use Rattle.post_log.proofs.judge.data_next.Needs as need
@@ -14,7 +14,7 @@ use Rattle.post_log.proofs.judge.data_next.Needs as need
 pub returns-in-empty : need.returns-in-empty
 returns-in-empty c =
     let none : c .args .words .now ≡ [] = nil-from-length (c .args .words .now) (omega (arith, ltb-true)) in
-    sym (ap (λ ws. data-next (map word ws)) none)
+    sym (ap (λ ws. data-next (map word-of ws)) none)
 
 pub returns-in-len1-up : need.returns-in-len1-up
 returns-in-len1-up c =

@@ -8,7 +8,7 @@ use borrow.Author.Tests.{ltb-true, ltb-false}
 use Rattle.std.specs.declared.result.Result.the-variants.{Ok, Err}
 use Rattle.std.proofs.shelf.Lists.{nil-from-length}
 use Rattle.std.proofs.shelf.Results.{err-from-errBy}
-use Rattle.post_log.specs.Words.{word}
+use Rattle.post_log.specs.Words.{word-of}
 use Rattle.post_log.specs.Verdict.{body-verdict}
 use Rattle.post_log.proofs.Body.{by-first, moves-on, length-after}
 use Rattle.post_log.proofs.judge.judge_body.Needs as need
@@ -33,4 +33,4 @@ loop-rest-again c =
 pub returns : need.returns
 returns c =
     let none : c .loop-rest .rest .now ≡ [] = nil-from-length (c .loop-rest .rest .now) (omega (arith, ltb-true)) in
-    sym (ap (λ ws. body-verdict (c .loop-rest .progress) (map word ws)) none) ∙ c .loop-rest .inv .0
+    sym (ap (λ ws. body-verdict (c .loop-rest .progress) (map word-of ws)) none) ∙ c .loop-rest .inv .0
