@@ -2,7 +2,7 @@
 # SPDX-License-Identifier: MIT OR Apache-2.0
 """A plain model of a post's log, written from docs/FORMAT.md and apart from the proved code.
 
-  model.py list < LOG            what garage_feed prints of a log
+  model.py list < LOG            what garage_feed says of an input
   model.py verdicts < CASES      for each line of hexadecimal words, what the check answers
   model.py cases                 the lines that crates/trials is run on
 """
@@ -82,8 +82,28 @@ def verdict(words):
     return "; ".join(["ok"] + ["%d %d %d %d %d" % r for r in records(words)])
 
 
+def listing(data):
+    """What garage_feed says of bytes: whether it lists them, and the text."""
+    if len(data) > 65536:
+        return False, "input above 65536 bytes is not read yet"
+    if len(data) % 4:
+        return False, "input that is not in fours of bytes is not read yet"
+    words = [int.from_bytes(data[i:i + 4], "big") for i in range(0, len(data), 4)]
+    log = words[:2 + words[1]] if len(words) >= 2 else words
+    refused = refusal(log)
+    if refused:
+        return False, "refused %d at %d of log 0" % refused
+    if len(log) < len(words):
+        return False, "more than one log is not read yet"
+    return True, "".join("%d %d %d %d %d\n" % r for r in records(log))
+
+
 def headed(body, post=5):
     return [0xC0000000 | post, len(body)] + list(body)
+
+
+def record(instant, klass, amount=9):
+    return [0x40000000 | instant, 0xC0000000 | klass << 28 | amount]
 
 
 def cases():
@@ -91,6 +111,10 @@ def cases():
     for length in range(4):
         for body in itertools.product(few, repeat=length):
             yield headed(body)
+    # two records, at one instant or two, with nothing, a floor or a silence between them
+    for between in ([], [0x00000005], [0x00000006], [0x80000001]):
+        for first, instant, second in itertools.product(range(3), (5, 6, 4), range(3)):
+            yield headed(record(5, first) + between + record(instant, second))
     good = headed([0x40000064, 0xD000012C])
     yield []
     yield good[:1]
@@ -134,14 +158,8 @@ def main():
         for line in sys.stdin:
             print(verdict([int(w, 16) for w in line.split()]))
     elif sys.argv[1:] == ["list"]:
-        data = sys.stdin.buffer.read()
-        words = [int.from_bytes(data[i:i + 4], "big") for i in range(0, len(data), 4)]
-        refused = refusal(words)
-        if refused:
-            print("refused %d at %d of log 0" % refused)
-        else:
-            for record in records(words):
-                print("%d %d %d %d %d" % record)
+        listed, text = listing(sys.stdin.buffer.read())
+        print(text, end="" if listed else "\n")
     else:
         sys.exit(__doc__)
 

@@ -7,6 +7,8 @@ use Rattle.std.specs.Written.{decimal}
 use Rattle.post_log.specs.declared.entry.Entry.{Entry}
 use Rattle.post_log.specs.declared.entry.Entry.the-variants.{Floor, Silence, Record}
 use Rattle.post_log.specs.Classes.{code}
+use Rattle.post_log.specs.Entries.{entries-of}
+use Rattle.post_log.specs.Words.{post, body}
 use Rattle.feed.specs.declared.line.Line.{Line}
 
 -- numbers in decimal, with single spaces between
@@ -24,3 +26,7 @@ listing p [] = []
 listing p (Floor t ∷ es) = listing p es
 listing p (Silence k ∷ es) = listing p es
 listing p (Record t c n a ∷ es) = line (record { instant = t; class = c; post = p; number = n; amount = a }) ++ (codes "\n" ++ listing p es)
+
+-- the listing of a log's words
+abbrev pub listing-of : List ℕ → List ℕ
+listing-of ws = listing (post ws) (entries-of (body ws))

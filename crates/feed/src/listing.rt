@@ -1,16 +1,12 @@
 // SPDX-License-Identifier: MIT OR Apache-2.0
 // The listing of a log, and of the log in an input.
-ghost use mathlib.Core.Logic.{_⊎_};
 ghost use mathlib.Core.Path.{_≡_};
 ghost use denote.Ref.{now};
 ghost use Rattle.std.specs.Of.String.{string-bytes};
 ghost use Rattle.std.specs.Results.{Cases, mapped};
-ghost use Rattle.std.specs.declared.result.Result.the-variants.{Ok, Err};
-ghost use Rattle.post_log.specs.Entries.{entries};
-ghost use Rattle.post_log.specs.Words.{post, body};
 ghost use Rattle.feed.specs.declared.failure.Failure.the-variants.{NoMemory};
-ghost use Rattle.feed.specs.Lines.{listing};
-ghost use Rattle.feed.specs.Outcomes.{outcome, Ruled};
+ghost use Rattle.feed.specs.Lines.{listing-of};
+ghost use Rattle.feed.specs.Outcomes.{Gives, Lists, Ruled};
 use crate::failure::Failure;
 use crate::failure::FailureFromAlloc;
 use crate::failure::FailureFromFormat;
@@ -31,7 +27,7 @@ pub const MOST_BYTES: usize = 65_536;
 
 // A line for each record, in turn.
 fn list_log(heap: Global, log: &CheckedLog) -> Result<String, Failure>
-    ensures { λ r. ⌜ Cases r (λ s. string-bytes s ≡ listing (post (now (now (log .entry) .words))) (entries 0 (body (now (now (log .entry) .words))))) (λ f. f ≡ NoMemory) ⌝ }
+    ensures { λ r. ⌜ Cases r (λ s. string-bytes s ≡ listing-of (now (now (log .entry) .words))) (λ f. f ≡ NoMemory) ⌝ }
 {
     let post = log.post();
     let mut text = String::new(heap);
@@ -55,9 +51,19 @@ fn list_log(heap: Global, log: &CheckedLog) -> Result<String, Failure>
     Ok(text)
 }
 
+// The listing of a log, unless words follow it.
+fn list_only(heap: Global, log: &CheckedLog, later: &[u32]) -> Result<String, Failure>
+    ensures { λ r. ⌜ Lists (now (now (log .entry) .words)) (now (later .entry)) (mapped string-bytes (λ f. f) r) ⌝ }
+{
+    if !later.is_empty() {
+        return Err(Failure::MoreLogs);
+    }
+    list_log(heap, log)
+}
+
 // The listing of the one log in the bytes.
 pub fn list(heap: Global, input: &[u8]) -> Result<String, Failure>
-    ensures value { λ r. ⌜ Cases r (λ s. outcome (now (input .entry)) ≡ Ok (string-bytes s)) (λ f. (f ≡ NoMemory) ⊎ (outcome (now (input .entry)) ≡ Err f)) ⌝ }
+    ensures value { λ r. ⌜ Gives (now (input .entry)) (mapped string-bytes (λ f. f) r) ⌝ }
     ensures ruled { λ r. ⌜ Ruled (now (input .entry)) (mapped string-bytes (λ f. f) r) ⌝ }
 {
     if input.len() > MOST_BYTES {
@@ -70,8 +76,5 @@ pub fn list(heap: Global, input: &[u8]) -> Result<String, Failure>
     let (first, later) = first_log(words.as_slice());
     let mut log = CheckedLog::empty();
     check(first, &mut log)?;
-    if !later.is_empty() {
-        return Err(Failure::MoreLogs);
-    }
-    list_log(heap, &log)
+    list_only(heap, &log, later)
 }

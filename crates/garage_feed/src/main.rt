@@ -25,6 +25,7 @@ fn main(rt: LibcRuntime) -> Result<(), AnyError> {
                 Failure::Refused(_) => println!(rt, "{failure}")?,
                 _ => eprintln!(rt, "garage_feed: {failure}")?,
             }
+            // only the status tells: what an `Err` of `main` holds is not shown
             Err("no listing".into())
         }
     }

@@ -1,8 +1,9 @@
 -- SPDX-License-Identifier: MIT OR Apache-2.0
+mod Bits
 mod Body
 mod Header
 mod Upto
 mod Walk
+mod Telling
 mod Whole
 mod Reading
-mod Telling

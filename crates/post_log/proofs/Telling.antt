@@ -3,7 +3,7 @@
 use Prim.Native.Nat.{ℕ, zero, suc, _+_, _<_, _≤_}
 use mathlib.Core.Path.{_≡_, refl, sym, ap, subst, _∙_}
 use mathlib.Core.Bool.{true, false, cond}
-use mathlib.Core.List.{List, [], _∷_}
+use mathlib.Core.List.{List, [], _∷_, map}
 use lib.Dec.{eqb}
 use lib.ListN.{take}
 use native.Mathlib.Nat.{add-zero, zero-add}
@@ -19,14 +19,16 @@ use Rattle.post_log.specs.declared.judge.Progress.{Progress}
 use Rattle.post_log.specs.declared.word.Word.{Word}
 use Rattle.post_log.specs.declared.word.Word.the-variants.{Floor, Head, Silence, Data}
 use Rattle.post_log.specs.Classes.{rank}
-use Rattle.post_log.specs.Entries.{entries, spelling, records, NotAbove, Told}
+use Rattle.post_log.specs.Entries.{entries, entries-of, spelling, records, NotAbove, Told}
+use Rattle.post_log.specs.Words.{word-of, bits, Narrow}
 use Rattle.post_log.specs.Verdict.{reached, passed, start, body-verdict, data-next}
+use Rattle.post_log.proofs.Bits.{bits-words}
 
 -- no entry falls below an earlier one
-abbrev Rising : List Entry → Type 0
-Rising es = (j k : ℕ) (e f : Entry) → j < k → nth es j ≡ Some e → nth es k ≡ Some f → NotAbove e f
+abbrev AllRise : List Entry → Type 0
+AllRise es = (j k : ℕ) (e f : Entry) → j < k → nth es j ≡ Some e → nth es k ≡ Some f → NotAbove e f
 
-rising-cons : (e : Entry) (es : List Entry) → ((k : ℕ) (f : Entry) → nth es k ≡ Some f → NotAbove e f) → Rising es → Rising (e ∷ es)
+rising-cons : (e : Entry) (es : List Entry) → ((k : ℕ) (f : Entry) → nth es k ≡ Some f → NotAbove e f) → AllRise es → AllRise (e ∷ es)
 rising-cons e es first rest j zero x y l a b = let q : ⊥ = omega arith in absurd q
 rising-cons e es first rest zero (suc k) x y l a b = let same : e ≡ x = cc in subst (λ v. NotAbove v y) same (first k y b)
 rising-cons e es first rest (suc j) (suc k) x y l a b = rest j k x y (omega arith) a b
@@ -58,7 +60,7 @@ silence-above n e = tt
 
 -- Entries from an instant and a rank on.
 record From (t k : ℕ) (es : List Entry) : Type 0 where
-  rising : Rising es
+  rising : AllRise es
   above : (j : ℕ) (e : Entry) → nth es j ≡ Some e → NotBelow t k e
 
 from-nil : (t k : ℕ) → From t k []
@@ -157,7 +159,11 @@ passing-tells p n (Head t ∷ Data (Some c) a ∷ ws) h v =
       counted = counted-cons n (Record t c n a) (entries (n + 1) ws) (λ u m b d e. (cc)) (r .counted);
     }
 
-pub told : (ws : List Word) → body-verdict start ws ≡ None → Told ws
-told ws v =
-    let r = passing-tells start 0 ws refl v in
-    record { whole = r .whole; rising = r .from .rising; counted = λ k t n a c e. r .counted k t n a c e ∙ zero-add (records (take k (entries 0 ws))) }
+pub told : (ws : List ℕ) → Narrow ws → body-verdict start (map word-of ws) ≡ None → Told ws
+told ws h v =
+    let r = passing-tells start 0 (map word-of ws) refl v in
+    record {
+      whole = ap (map bits) (r .whole) ∙ bits-words ws h;
+      rising = r .from .rising;
+      counted = λ k t n a c e. r .counted k t n a c e ∙ zero-add (records (take k (entries-of ws)));
+    }

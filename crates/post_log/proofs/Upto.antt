@@ -15,7 +15,7 @@ use Rattle.post_log.specs.declared.judge.Progress.{Progress}
 use Rattle.post_log.specs.declared.word.Word.{Word}
 use Rattle.post_log.specs.declared.word.Word.the-variants.{Head}
 use Rattle.post_log.specs.Classes.{rank}
-use Rattle.post_log.specs.Rules.{before, Timed, Ends, InPlace, InTime, Stands, StandsTo}
+use Rattle.post_log.specs.Rules.{before, Timed, Ends, InPlace, Rising, Stands, StandsTo}
 use Rattle.post_log.specs.Verdict.{reached, passed}
 
 -- what holds of each number below i, and of i
@@ -56,12 +56,12 @@ module _ (ws : List Word) where
 
   module _ (i : ℕ) (p : Progress) (u : Upto i p) where
     -- an instant below the highest falls
-    pub falls : (t : ℕ) → Timed ws i t → t < p .instant → InTime ws i → ⊥
+    pub falls : (t : ℕ) → Timed ws i t → t < p .instant → Rising ws i → ⊥
     falls t e l time =
         elim (u .met) [ inl z ↦ omega arith | inr m ↦ let k = time .instant (m .0) (p .instant) t (m .1) (m .2) e in omega arith ]
 
     -- a class below the highest of its instant falls
-    pub class-falls : (c : Class) → Ends ws i (p .instant) c → rank c < p .rank → InTime ws i → ⊥
+    pub class-falls : (c : Class) → Ends ws i (p .instant) c → rank c < p .rank → Rising ws i → ⊥
     class-falls c e l time =
         elim (u .class-met) [ inl z ↦ omega arith | inr m ↦ let k = time .class (m .0) (p .instant) (m .1) c (m .2) (m .3) e in let g = m .4 in omega arith ]
 

@@ -17,11 +17,11 @@ use Rattle.std.specs.declared.result.Result.the-variants.{Ok, Err}
 use Rattle.post_log.specs.declared.class.Class.{Class}
 use Rattle.post_log.specs.declared.judge.Progress.{Progress}
 use Rattle.post_log.specs.declared.refusal.Refusal.{Refusal}
-use Rattle.post_log.specs.declared.refusal.Refusal.the-variants.{TooShort, HeadWord, CountWord, Malformed, Falling}
+use Rattle.post_log.specs.declared.refusal.Refusal.the-variants.{TooShort, BadHeader, BadCount, Misplaced, Falling}
 use Rattle.post_log.specs.declared.word.Word.{Word}
 use Rattle.post_log.specs.declared.word.Word.the-variants.{Floor, Head, Silence, Data}
 use Rattle.post_log.specs.Classes.{rank}
-use Rattle.post_log.specs.Rules.{Timed, Ends, Fits, InPlace, InTime, Stands, StandsTo}
+use Rattle.post_log.specs.Rules.{Timed, Ends, Fits, InPlace, Stands, StandsTo, FirstMisplaced, FirstFalling}
 use Rattle.post_log.specs.Verdict.{judged, timed, reached, passed, start, body-verdict, data-next}
 use Rattle.post_log.specs.Words.{is-data}
 use Rattle.post_log.proofs.Body.{going-on}
@@ -52,10 +52,10 @@ module _ (ws : List Word) where
   -- the leftmost place that breaks a rule
   abbrev pub Breaks : Refusal → Type 0
   Breaks TooShort = ⊥
-  Breaks HeadWord = ⊥
-  Breaks CountWord = ⊥
-  Breaks (Malformed q) = (i : ℕ) × (q ≡ i + 2) × StandsTo ws i × (InPlace ws i → ⊥)
-  Breaks (Falling q) = (i : ℕ) × (q ≡ i + 2) × StandsTo ws i × InPlace ws i × (InTime ws i → ⊥)
+  Breaks BadHeader = ⊥
+  Breaks BadCount = ⊥
+  Breaks (Misplaced q) = (i : ℕ) × (q ≡ i + 2) × FirstMisplaced ws i
+  Breaks (Falling q) = (i : ℕ) × (q ≡ i + 2) × FirstFalling ws i
 
   -- what a verdict says of the whole
   abbrev pub Says : Option Refusal → Type 0
@@ -84,40 +84,40 @@ module _ (ws : List Word) where
     at-timed : (t : ℕ) (h : Bool) → Timed ws i t → InPlace ws i → (h ≡ true → nth ws i ≡ Some (Head t)) → (h ≡ false → (s : ℕ) → nth ws i ≡ Some (Head s) → ⊥) → Steps i (timed t h p)
     at-timed t h e placed is-head no-head =
         cond-both (ltb t (p .instant)) (Err (Falling (p .place))) (Ok (reached t h p)) (Steps i)
-        (λ y. (i, u .place, u .stands, placed, falls ws i p u t e (ltb-true t (p .instant) y)))
+        (λ y. (i, u .place, (u .stands, placed, falls ws i p u t e (ltb-true t (p .instant) y))))
         (λ n. reach ws i p u t h e (ltb-false t (p .instant) n) placed is-head no-head)
 
     at-head : (t : ℕ) (f : Bool) → nth ws i ≡ Some (Head t) → Followed (suc i) f → Steps i (judged (Head t) f p)
     at-head t true e d = at-timed t true (inr e) (placed-by i (Head t) e (d .yes refl)) (λ _. e) (λ z. absurd (true≢false z))
     at-head t false e d =
-        (i, u .place, u .stands, λ placed. let fits = placed (Head t) e in d .none refl (fits .0) (fits .1) (fits .2))
+        (i, u .place, (u .stands, λ placed. let fits = placed (Head t) e in d .none refl (fits .0) (fits .1) (fits .2)))
 
     at-silence : (n : ℕ) (f : Bool) → nth ws i ≡ Some (Silence n) → Steps i (judged (Silence n) f p)
     at-silence n f e =
-        cond-both (eqb n 0) (Err (Malformed (p .place))) (Ok (passed (p .rank) p)) (Steps i)
-        (λ y. (i, u .place, u .stands, λ placed. let fits = placed (Silence n) e in omega (arith, eqb-true n 0 y)))
+        cond-both (eqb n 0) (Err (Misplaced (p .place))) (Ok (passed (p .rank) p)) (Steps i)
+        (λ y. (i, u .place, (u .stands, λ placed. let fits = placed (Silence n) e in omega (arith, eqb-true n 0 y))))
         (λ z.
         pass ws i p u (p .rank) (untimed i (Silence n) e refl) (placed-by i (Silence n) e (omega (arith, eqb-false n 0 z))) (omega arith)
         (λ t c x. let y = x .2 in let z : _≡_ {A = ℕ} 0 1 = cc in let q : ⊥ = omega arith in absurd q)
         (inl refl))
 
-    at-data : (c : Class) (a : ℕ) (f : Bool) (h : Bool) → nth ws i ≡ Some (Data (Some c) a) → p .headed ≡ h → Steps i (cond h (cond (ltb (rank c) (p .rank)) (Err (Falling (p .place))) (Ok (passed (rank c) p))) (Err (Malformed (p .place))))
+    at-data : (c : Class) (a : ℕ) (f : Bool) (h : Bool) → nth ws i ≡ Some (Data (Some c) a) → p .headed ≡ h → Steps i (cond h (cond (ltb (rank c) (p .rank)) (Err (Falling (p .place))) (Ok (passed (rank c) p))) (Err (Misplaced (p .place))))
     at-data c a f true e y =
         let own : Ends ws i (p .instant) c = (a, u .head y, e) in
         let placed = placed-by i (Data (Some c) a) e (p .instant, u .head y, refl) in
         cond-both (ltb (rank c) (p .rank)) (Err (Falling (p .place))) (Ok (passed (rank c) p)) (Steps i)
-        (λ l. (i, u .place, u .stands, placed, class-falls ws i p u c own (ltb-true (rank c) (p .rank) l)))
+        (λ l. (i, u .place, (u .stands, placed, class-falls ws i p u c own (ltb-true (rank c) (p .rank) l))))
         (λ l.
         pass ws i p u (rank c) (untimed i (Data (Some c) a) e refl) placed (ltb-false (rank c) (p .rank) l)
         (λ t d x. let here = u .head y in let head = x .1 in let data-word = x .2 in let same : d ≡ c = cc in (cc, ap rank same))
         (inr (c, own, refl)))
-    at-data c a f false e y = (i, u .place, u .stands, λ placed. let fits = placed (Data (Some c) a) e in u .no-head y (fits .0) (fits .1))
+    at-data c a f false e y = (i, u .place, (u .stands, λ placed. let fits = placed (Data (Some c) a) e in u .no-head y (fits .0) (fits .1)))
 
     step : (w : Word) (f : Bool) → nth ws i ≡ Some w → Followed (suc i) f → Steps i (judged w f p)
     step (Floor t) f e d = at-timed t false (inl e) (placed-by i (Floor t) e tt) (λ z. absurd (false≢true z)) (λ _ s x. let z : _≡_ {A = ℕ} 0 1 = cc in omega arith)
     step (Head t) f e d = at-head t f e d
     step (Silence n) f e d = at-silence n f e
-    step (Data None a) f e d = (i, u .place, u .stands, λ placed. let fits = placed (Data None a) e in false≢true (fits .2))
+    step (Data None a) f e d = (i, u .place, (u .stands, λ placed. let fits = placed (Data None a) e in false≢true (fits .2)))
     step (Data (Some c) a) f e d = at-data c a f (p .headed) e refl
 
   -- the words after the place i stand in ws from there on

@@ -12,7 +12,7 @@ use Rattle.post_log.specs.declared.entry.Entry.the-variants.{Record, Floor as 
 use Rattle.post_log.specs.declared.word.Word.{Word}
 use Rattle.post_log.specs.declared.word.Word.the-variants.{Floor, Head, Silence, Data}
 use Rattle.post_log.specs.Classes.{rank}
-use Rattle.post_log.specs.Words.{word-of}
+use Rattle.post_log.specs.Words.{word-of, bits}
 
 -- the entries of words in turn, up to a word that begins none; their records are numbered from n
 abbrev pub entries : ℕ → List Word → List Entry
@@ -60,9 +60,13 @@ NotAbove (Record t c n a) (FloorAt u) = t ≤ u
 NotAbove (Record t c n a) (Record u d m b) = (t ≤ u) × (t ≡ u → rank c ≤ rank d)
 NotAbove (Record t c n a) (Silent k) = Unit {0}
 
--- What a body says: its entries are spelled by exactly its words, none falls below an earlier one, and each record's number
--- is the count of the records before it.
-pub record Told (ws : List Word) : Type 0 where
-  pub whole : spelling (entries 0 ws) ≡ ws
-  pub rising : (j k : ℕ) (e f : Entry) → j < k → nth (entries 0 ws) j ≡ Some e → nth (entries 0 ws) k ≡ Some f → NotAbove e f
-  pub counted : (k t n a : ℕ) (c : Class) → nth (entries 0 ws) k ≡ Some (Record t c n a) → n ≡ records (take k (entries 0 ws))
+-- the entries of a body's words, its records numbered from 0
+abbrev pub entries-of : List ℕ → List Entry
+entries-of ws = entries 0 (map word-of ws)
+
+-- What a body says: the words of its entries, bit by bit, are exactly its words; none falls below an earlier one; and each
+-- record's number is the count of the records before it.
+pub record Told (ws : List ℕ) : Type 0 where
+  pub whole : map bits (spelling (entries-of ws)) ≡ ws
+  pub rising : (j k : ℕ) (e f : Entry) → j < k → nth (entries-of ws) j ≡ Some e → nth (entries-of ws) k ≡ Some f → NotAbove e f
+  pub counted : (k t n a : ℕ) (c : Class) → nth (entries-of ws) k ≡ Some (Record t c n a) → n ≡ records (take k (entries-of ws))

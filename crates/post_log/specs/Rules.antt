@@ -12,6 +12,7 @@ use Rattle.std.specs.declared.option.Option.{Option}
 use Rattle.std.specs.declared.option.Option.the-variants.{Some, None}
 use Rattle.post_log.specs.declared.class.Class.{Class}
 use Rattle.post_log.specs.declared.refusal.Refusal.{Refusal}
+use Rattle.post_log.specs.declared.refusal.Refusal.the-variants.{TooShort, BadHeader, BadCount, Misplaced, Falling}
 use Rattle.post_log.specs.declared.word.Word.{Word}
 use Rattle.post_log.specs.declared.word.Word.the-variants.{Floor, Head, Silence, Data}
 use Rattle.post_log.specs.Classes.{rank}
@@ -45,8 +46,8 @@ module _ (ws : List Word) where
   abbrev pub InPlace : ℕ → Type 0
   InPlace i = (w : Word) → nth ws i ≡ Some w → Fits i w
 
-  -- the word at a place comes no earlier than those before it
-  pub record InTime (i : ℕ) : Type 0 where
+  -- the word at a place does not fall below those before it
+  pub record Rising (i : ℕ) : Type 0 where
     -- no floor or record has an instant below an earlier one
     pub instant : (j t u : ℕ) → j < i → Timed j t → Timed i u → t ≤ u
     -- at one instant no record has a class below an earlier one
@@ -54,15 +55,23 @@ module _ (ws : List Word) where
 
   -- a place keeps the rules
   abbrev pub Stands : ℕ → Type 0
-  Stands i = InPlace i × InTime i
+  Stands i = InPlace i × Rising i
 
   -- each place left of i does
   abbrev pub StandsTo : ℕ → Type 0
   StandsTo i = (j : ℕ) → j < i → Stands j
 
+  -- the leftmost place that breaks a rule has a word out of its place
+  abbrev pub FirstMisplaced : ℕ → Type 0
+  FirstMisplaced i = StandsTo i × (InPlace i → ⊥)
+
+  -- or else one that falls
+  abbrev pub FirstFalling : ℕ → Type 0
+  FirstFalling i = StandsTo i × InPlace i × (Rising i → ⊥)
+
 -- A log's first word has kind 3, zeros in bits 29 to 10, and the post in the others.
-abbrev pub HeadWord : ℕ → Type 0
-HeadWord h = h / 0x400 ≡ 0x30_0000
+abbrev pub HeaderWord : ℕ → Type 0
+HeaderWord h = h / 0x400 ≡ 0x30_0000
 
 -- Its second word is the number of words after it, at most 16,382.
 pub record CountWord (n : ℕ) (body : List ℕ) : Type 0 where
@@ -70,7 +79,7 @@ pub record CountWord (n : ℕ) (body : List ℕ) : Type 0 where
   pub few : n ≤ 16382
 
 abbrev pub Headed : ℕ → ℕ → List ℕ → Type 0
-Headed h n body = HeadWord h × CountWord n body
+Headed h n body = HeaderWord h × CountWord n body
 
 -- The words are a log.
 abbrev pub Lawful : List ℕ → Type 0
@@ -78,15 +87,15 @@ Lawful [] = ⊥
 Lawful (h ∷ []) = ⊥
 Lawful (h ∷ n ∷ body) = Headed h n body × ((i : ℕ) → Stands (map word-of body) i)
 
--- The words are refused, by a number and at a place that counts from the log's first word: by the header, or else at the
--- leftmost place i of the body that breaks a rule, and there by its place before its time.
+-- The words are refused, by a number and at a place that counts from the log's first word: by the header, or else by the
+-- leftmost place of the body that breaks a rule.
 pub data Refused : List ℕ → ℕ → ℕ → Type 0 where
-  no-word : Refused [] 1 0
-  one-word : {h : ℕ} → Refused (h ∷ []) 1 0
-  head-word : {h n : ℕ} {body : List ℕ} → (HeadWord h → ⊥) → Refused (h ∷ n ∷ body) 2 0
-  count-word : {h n : ℕ} {body : List ℕ} → HeadWord h → (CountWord n body → ⊥) → Refused (h ∷ n ∷ body) 3 1
-  misplaced : {h n : ℕ} {body : List ℕ} → Headed h n body → (i : ℕ) → StandsTo (map word-of body) i → (InPlace (map word-of body) i → ⊥) → Refused (h ∷ n ∷ body) 4 (i + 2)
-  mistimed : {h n : ℕ} {body : List ℕ} → Headed h n body → (i : ℕ) → StandsTo (map word-of body) i → InPlace (map word-of body) i → (InTime (map word-of body) i → ⊥) → Refused (h ∷ n ∷ body) 5 (i + 2)
+  no-word : Refused [] (number TooShort) (place TooShort)
+  one-word : {h : ℕ} → Refused (h ∷ []) (number TooShort) (place TooShort)
+  bad-header : {h n : ℕ} {body : List ℕ} → (HeaderWord h → ⊥) → Refused (h ∷ n ∷ body) (number BadHeader) (place BadHeader)
+  bad-count : {h n : ℕ} {body : List ℕ} → HeaderWord h → (CountWord n body → ⊥) → Refused (h ∷ n ∷ body) (number BadCount) (place BadCount)
+  misplaced : {h n i : ℕ} {body : List ℕ} → Headed h n body → FirstMisplaced (map word-of body) i → Refused (h ∷ n ∷ body) (number (Misplaced (i + 2))) (place (Misplaced (i + 2)))
+  falling : {h n i : ℕ} {body : List ℕ} → Headed h n body → FirstFalling (map word-of body) i → Refused (h ∷ n ∷ body) (number (Falling (i + 2))) (place (Falling (i + 2)))
 
 -- The answer v to the words, a refusal or none, is what the rules give, and the rules give nothing else.
 pub record Decided (ws : List ℕ) (v : Option Refusal) : Type 0 where

@@ -13,7 +13,7 @@ use Rattle.std.specs.declared.result.Result.{Result}
 use Rattle.std.specs.declared.result.Result.the-variants.{Ok, Err}
 use Rattle.post_log.specs.declared.judge.Progress.{Progress}
 use Rattle.post_log.specs.declared.refusal.Refusal.{Refusal}
-use Rattle.post_log.specs.declared.refusal.Refusal.the-variants.{TooShort, HeadWord, CountWord, Malformed, Falling}
+use Rattle.post_log.specs.declared.refusal.Refusal.the-variants.{TooShort, BadHeader, BadCount, Misplaced, Falling}
 use Rattle.post_log.specs.declared.word.Word.{Word}
 use Rattle.post_log.specs.declared.word.Word.the-variants.{Floor, Head, Silence, Data}
 use Rattle.post_log.specs.Classes.{rank}
@@ -38,13 +38,13 @@ timed t h p = cond (ltb t (p .instant)) (Err (Falling (p .place))) (Ok (reached 
 -- A word, where `followed` says whether a data word follows it: refused, or passed.
 abbrev pub judged : Word → Bool → Progress → Result Progress Refusal
 judged (Floor t) followed p = timed t false p
-judged (Head t) followed p = cond followed (timed t true p) (Err (Malformed (p .place)))
-judged (Silence n) followed p = cond (eqb n 0) (Err (Malformed (p .place))) (Ok (passed (p .rank) p))
-judged (Data None a) followed p = Err (Malformed (p .place))
+judged (Head t) followed p = cond followed (timed t true p) (Err (Misplaced (p .place)))
+judged (Silence n) followed p = cond (eqb n 0) (Err (Misplaced (p .place))) (Ok (passed (p .rank) p))
+judged (Data None a) followed p = Err (Misplaced (p .place))
 judged (Data (Some c) a) followed p =
     cond (p .headed)
     (cond (ltb (rank c) (p .rank)) (Err (Falling (p .place))) (Ok (passed (rank c) p)))
-    (Err (Malformed (p .place)))
+    (Err (Misplaced (p .place)))
 
 -- whether the words begin with data
 abbrev pub data-next : List Word → Bool
@@ -60,8 +60,8 @@ body-verdict p (w ∷ ws) = elim (judged w (data-next ws) p) [ Ok q ↦ body-ver
 abbrev pub header-verdict : ℕ → ℕ → ℕ → Option Refusal
 header-verdict h n len =
     cond (eqb (h / 0x400) 0x30_0000)
-    (cond (ltb 16382 n) (Some CountWord) (cond (eqb n len) None (Some CountWord)))
-    (Some HeadWord)
+    (cond (ltb 16382 n) (Some BadCount) (cond (eqb n len) None (Some BadCount)))
+    (Some BadHeader)
 
 -- why the words are no log, or nothing where they are one
 abbrev pub verdict : List ℕ → Option Refusal

@@ -3,11 +3,11 @@
 ghost use mathlib.Core.Path.{_≡_};
 ghost use mathlib.Core.List.{[], _∷_};
 ghost use denote.Ref.{now};
-ghost use Prim.Native.Nat.{_≤_};
-ghost use Rattle.post_log.specs.Entries.{entries};
+ghost use Rattle.post_log.specs.Entries.{entries-of, Told};
+ghost use Rattle.post_log.specs.Rules.{Lawful};
 ghost use Rattle.post_log.specs.Steps.{shown};
 ghost use Rattle.post_log.specs.Verdict.{Passes};
-ghost use Rattle.post_log.specs.Words.{body, post};
+ghost use Rattle.post_log.specs.Words.{body, post, Narrow};
 use crate::entries::Entries;
 
 // Not `Copy`: a log has one reader.
@@ -15,6 +15,7 @@ use crate::entries::Entries;
 pub struct CheckedLog<'a> {
     words: &'a [u32],
     ghost lawful: { Passes (now words) },
+    ghost narrow: { Narrow (now words) },
 }
 
 impl<'a> CheckedLog<'a> {
@@ -28,23 +29,28 @@ impl<'a> CheckedLog<'a> {
     }
 
     pub(crate) fn of(words: &'a [u32]) -> Self
-        requires { ⌜ Passes (now words) ⌝ }
+        requires { ⌜ Passes (now words) ⌝ ∗ ⌜ Narrow (now words) ⌝ }
         ensures { λ r. ⌜ r .words ≡ words .entry ⌝ }
     {
         CheckedLog { words }
     }
 
+    // Does nothing: its contract is what every checked log is.
+    pub fn meaning(&self)
+        ensures lawful { λ _. ⌜ Lawful (now (now (self .entry) .words)) ⌝ }
+        ensures told { λ _. ⌜ Told (body (now (now (self .entry) .words))) ⌝ }
+    {}
+
     // The post that wrote the log, 0 to 1,023.
     pub fn post(&self) -> u32
-        ensures value { λ r. ⌜ r ≡ post (now (now (self .entry) .words)) ⌝ }
-        ensures limit { λ r. ⌜ r ≤ 1023 ⌝ }
+        ensures { λ r. ⌜ r ≡ post (now (now (self .entry) .words)) ⌝ }
     {
         self.words[0] % 0x400
     }
 
     // What the words say.
     pub fn entries(&self) -> Entries<'a>
-        ensures { λ r. ⌜ shown r ≡ entries 0 (body (now (now (self .entry) .words))) ⌝ }
+        ensures { λ r. ⌜ shown r ≡ entries-of (body (now (now (self .entry) .words))) ⌝ }
     {
         let (_, body) = self.words.split_at(2);
         Entries {

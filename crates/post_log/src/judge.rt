@@ -9,7 +9,7 @@ ghost use Rattle.std.specs.Results.{Cases, errPart};
 ghost use Rattle.post_log.specs.Entries.{Told};
 ghost use Rattle.post_log.specs.Rules.{Decided};
 ghost use Rattle.post_log.specs.Verdict.{judged, start, reached, passed, header-verdict, body-verdict, verdict, data-next};
-ghost use Rattle.post_log.specs.Words.{word-of, body};
+ghost use Rattle.post_log.specs.Words.{word-of, body, Narrow};
 use crate::checked::CheckedLog;
 use crate::refusal::Refusal;
 use crate::word::Word;
@@ -85,13 +85,13 @@ impl Progress {
         match word {
             Word::Floor { instant } if instant < self.instant => Err(Refusal::Falling { at }),
             Word::Floor { instant } => Ok(self.reach(instant, false)),
-            Word::Head { .. } if !followed => Err(Refusal::Malformed { at }),
+            Word::Head { .. } if !followed => Err(Refusal::Misplaced { at }),
             Word::Head { instant } if instant < self.instant => Err(Refusal::Falling { at }),
             Word::Head { instant } => Ok(self.reach(instant, true)),
-            Word::Silence { polls } if polls == 0 => Err(Refusal::Malformed { at }),
+            Word::Silence { polls } if polls == 0 => Err(Refusal::Misplaced { at }),
             Word::Silence { .. } => Ok(self.pass(self.rank)),
             Word::Data { class, .. } if !self.headed || class.is_none() => {
-                Err(Refusal::Malformed { at })
+                Err(Refusal::Misplaced { at })
             }
             Word::Data {
                 class: Some(class),
@@ -130,10 +130,10 @@ fn judge_header(head: u32, count: u32, len: usize) -> Result<(), Refusal>
     ensures { λ r. ⌜ errPart r ≡ header-verdict head count len ⌝ }
 {
     if head >> 10 != HEADER {
-        return Err(Refusal::HeadWord);
+        return Err(Refusal::BadHeader);
     }
     if count > MOST || count as usize != len {
-        return Err(Refusal::CountWord);
+        return Err(Refusal::BadCount);
     }
     Ok(())
 }
@@ -143,6 +143,7 @@ fn judge_log(words: &[u32]) -> Result<(), Refusal>
     ensures value { λ r. ⌜ errPart r ≡ verdict (now (words .entry)) ⌝ }
     ensures decided { λ r. ⌜ Decided (now (words .entry)) (errPart r) ⌝ }
     ensures told { λ r. ⌜ Cases r (λ _. Told (body (now (words .entry)))) (λ _. Unit {0}) ⌝ }
+    ensures narrow { λ _. ⌜ Narrow (now (words .entry)) ⌝ }
 {
     let [head, count, body @ ..] = words else {
         return Err(Refusal::TooShort);

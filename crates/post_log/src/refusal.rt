@@ -8,11 +8,11 @@ pub enum Refusal {
     // fewer than two words
     TooShort,
     // the first word is no header
-    HeadWord,
+    BadHeader,
     // the second word is not the number of words in the body, or is above its limit
-    CountWord,
+    BadCount,
     // a word that cannot stand where it stands
-    Malformed { at: usize },
+    Misplaced { at: usize },
     // an instant or a class that falls
     Falling { at: usize },
 }
@@ -23,9 +23,9 @@ impl Refusal {
     {
         match self {
             Refusal::TooShort => 1,
-            Refusal::HeadWord => 2,
-            Refusal::CountWord => 3,
-            Refusal::Malformed { .. } => 4,
+            Refusal::BadHeader => 2,
+            Refusal::BadCount => 3,
+            Refusal::Misplaced { .. } => 4,
             Refusal::Falling { .. } => 5,
         }
     }
@@ -35,9 +35,9 @@ impl Refusal {
         ensures { λ r. ⌜ r ≡ place self ⌝ }
     {
         match self {
-            Refusal::TooShort | Refusal::HeadWord => 0,
-            Refusal::CountWord => 1,
-            Refusal::Malformed { at } | Refusal::Falling { at } => at,
+            Refusal::TooShort | Refusal::BadHeader => 0,
+            Refusal::BadCount => 1,
+            Refusal::Misplaced { at } | Refusal::Falling { at } => at,
         }
     }
 }

@@ -1,6 +1,8 @@
 // SPDX-License-Identifier: MIT OR Apache-2.0
 // Logs as lines of hexadecimal words on standard input: prints what the check answers to each, and the records of those that
 // it accepts.
+use feed::Line;
+use feed::LineDisplay;
 use post_log::CheckedLog;
 use post_log::EntriesIterator;
 use post_log::Entry;
@@ -35,9 +37,14 @@ fn answer(heap: Global, words: &[u32]) -> Result<String, AllocError> {
             number,
             amount,
         } = entry {
-            let class = class.code();
-            let record = format!(heap, "; {instant} {class} {post} {number} {amount}")?;
-            text.push_str(record.as_str())?;
+            let line = Line {
+                instant,
+                class,
+                post,
+                number,
+                amount,
+            };
+            text.push_str(format!(heap, "; {line}")?.as_str())?;
         }
     }
     Ok(text)
@@ -60,7 +67,7 @@ mod tests {
     use feed::list;
     use std::test::*;
 
-    // What the check answers to a body of floors at instant 1 that ends with some words, with one more word where asked.
+    // What the check answers to a body of so many words: floors at instant 1, and at its end the given words.
     fn at_end(heap: Global, count: u32, end: &[u32]) -> Result<String, AllocError> {
         let mut words = vec![in heap; 0xC000_0005, count]?;
         for _ in end.len()..count as usize {
