@@ -7,7 +7,6 @@ use mathlib.Core.Logic.{inl, inr}
 use mathlib.Core.Path.{_≡_, refl, sym, ap, subst, _∙_}
 use lib.Dec.{eqb, ltb}
 use lib.ListN.{length}
-use native.Mathlib.Omega.{arith}
 use Rattle.std.proofs.shelf.Tests.{le-ltb, eq-eqb}
 use Rattle.std.specs.declared.option.Option.{Option}
 use Rattle.std.specs.declared.option.Option.the-variants.{Some, None}
@@ -23,6 +22,7 @@ use Rattle.feed.specs.declared.failure.Failure.the-variants.{Refused, MoreLogs
 use Rattle.feed.specs.Inputs.{words-of, spelled, first-log, later-words}
 use Rattle.feed.specs.Lines.{listing-of}
 use Rattle.feed.specs.Outcomes.{listed, judged, outcome, Gives, Lists, Read, Ruled}
+use Rattle.post_log.proofs.Clash.{clash}
 
 -- An input in fours, and not too long, whose first log passes.
 pub record Passed (bytes ws log later : List ℕ) : Type 0 where
@@ -65,10 +65,10 @@ module _ (bytes ws log later : List ℕ) (p : Passed bytes ws log later) where
       given [] e (Ok text) h =
           let same : text ≡ listing-of log = cc in
           (outcome-is ∙ sym (ap (listed log) e) ∙ h, (read, sym later-is ∙ sym e, same ∙ ap listing-of log-is))
-      given (w ∷ l) e (Ok text) h = let z : _≡_ {A = ℕ} 0 1 = cc in let q : ⊥ = omega arith in absurd q
-      given [] e (Err f) (inl h) = let z : _≡_ {A = ℕ} 0 1 = cc in let q : ⊥ = omega arith in absurd q
+      given (w ∷ l) e (Ok text) h = clash (cc)
+      given [] e (Err f) (inl h) = clash (cc)
       given (w ∷ l) e (Err f) (inl h) =
           let same : MoreLogs ≡ f = cc in
-          let some : later-words (words-of bytes) ≡ [] → ⊥ = λ n. let all = e ∙ later-is ∙ n in let z : _≡_ {A = ℕ} 0 1 = cc in omega arith in
+          let some : later-words (words-of bytes) ≡ [] → ⊥ = λ n. let all = e ∙ later-is ∙ n in clash (cc) in
           (inl (outcome-is ∙ sym (ap (listed log) e) ∙ h), subst (λ v. Ruled bytes (Err v)) same (read, some))
       given l e (Err f) (inr h) = (inr (h, p .small, p .fours), subst (λ v. Ruled bytes (Err v)) (sym h) tt)

@@ -1,4 +1,5 @@
 -- SPDX-License-Identifier: MIT OR Apache-2.0
+pub mod Clash
 mod Bits
 mod Body
 mod Header

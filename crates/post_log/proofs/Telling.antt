@@ -23,6 +23,7 @@ use Rattle.post_log.specs.Entries.{entries, entries-of, spelling, records, Not
 use Rattle.post_log.specs.Words.{word-of, bits, Narrow}
 use Rattle.post_log.specs.Verdict.{reached, passed, start, body-verdict, data-next}
 use Rattle.post_log.proofs.Bits.{bits-words}
+use Rattle.post_log.proofs.Clash.{clash}
 
 -- no entry falls below an earlier one
 abbrev AllRise : List Entry → Type 0
@@ -66,8 +67,8 @@ record From (t k : ℕ) (es : List Entry) : Type 0 where
 from-nil : (t k : ℕ) → From t k []
 from-nil t k =
     record {
-      rising = λ i j e f l a b. let z : _≡_ {A = ℕ} 0 1 = cc in let q : ⊥ = omega arith in absurd q;
-      above = λ j e a. let z : _≡_ {A = ℕ} 0 1 = cc in let q : ⊥ = omega arith in absurd q;
+      rising = λ i j e f l a b. clash (cc);
+      above = λ j e a. clash (cc);
     }
 
 -- an entry from t and k on, before others from u and m on
@@ -122,7 +123,7 @@ rank-asked : (t u k m : ℕ) → cond (eqb t u) k 0 ≤ m → u ≡ t → k ≤ 
 rank-asked t u k m l e = grind (arith, tells)
 
 passing-tells : (p : Progress) (n : ℕ) (ws : List Word) → p .headed ≡ false → body-verdict p ws ≡ None → Tells p n ws
-passing-tells p n [] h v = record { whole = refl; from = from-nil (p .instant) (p .rank); counted = λ k t m a c e. let z : _≡_ {A = ℕ} 0 1 = cc in omega arith }
+passing-tells p n [] h v = record { whole = refl; from = from-nil (p .instant) (p .rank); counted = λ k t m a c e. clash (cc) }
 passing-tells p n (Floor t ∷ ws) h v =
     let f = at-floor p ws t v in
     let q = reached t false p in
@@ -130,7 +131,7 @@ passing-tells p n (Floor t ∷ ws) h v =
     record {
       whole = ap (λ us. Floor t ∷ us) (r .whole);
       from = from-cons (p .instant) (p .rank) t (q .rank) (FloorAt t) (entries n ws) (f .0) (rank-kept t (p .instant) (p .rank)) (f .0) (floor-above t (q .rank)) (r .from);
-      counted = counted-cons n (FloorAt t) (entries n ws) (λ u m a c e. let z : _≡_ {A = ℕ} 0 1 = cc in omega arith) (subst (λ k. Counted k (entries n ws)) (sym (add-zero n)) (r .counted));
+      counted = counted-cons n (FloorAt t) (entries n ws) (λ u m a c e. clash (cc)) (subst (λ k. Counted k (entries n ws)) (sym (add-zero n)) (r .counted));
     }
 passing-tells p n (Silence k ∷ ws) h v =
     let q = passed (p .rank) p in
@@ -138,15 +139,15 @@ passing-tells p n (Silence k ∷ ws) h v =
     record {
       whole = ap (λ us. Silence k ∷ us) (r .whole);
       from = from-cons (p .instant) (p .rank) (p .instant) (p .rank) (Silent k) (entries n ws) (omega arith) (λ _. omega arith) tt (λ e _. silence-above k e) (r .from);
-      counted = counted-cons n (Silent k) (entries n ws) (λ u m a c e. let z : _≡_ {A = ℕ} 0 1 = cc in omega arith) (subst (λ k. Counted k (entries n ws)) (sym (add-zero n)) (r .counted));
+      counted = counted-cons n (Silent k) (entries n ws) (λ u m a c e. clash (cc)) (subst (λ k. Counted k (entries n ws)) (sym (add-zero n)) (r .counted));
     }
-passing-tells p n (Data None a ∷ ws) h v = let z : _≡_ {A = ℕ} 0 1 = cc in let q : ⊥ = omega arith in absurd q
+passing-tells p n (Data None a ∷ ws) h v = clash (cc)
 passing-tells p n (Data (Some c) a ∷ ws) h v = absurd (both-ways (p .headed) h (at-data p ws c a v .0))
 passing-tells p n (Head t ∷ []) h v = absurd (false≢true (at-head p [] t v .0))
 passing-tells p n (Head t ∷ Floor u ∷ ws) h v = absurd (false≢true (at-head p (Floor u ∷ ws) t v .0))
 passing-tells p n (Head t ∷ Head u ∷ ws) h v = absurd (false≢true (at-head p (Head u ∷ ws) t v .0))
 passing-tells p n (Head t ∷ Silence k ∷ ws) h v = absurd (false≢true (at-head p (Silence k ∷ ws) t v .0))
-passing-tells p n (Head t ∷ Data None a ∷ ws) h v = let f = at-head p (Data None a ∷ ws) t v in let w = f .2 in let z : _≡_ {A = ℕ} 0 1 = cc in let q : ⊥ = omega arith in absurd q
+passing-tells p n (Head t ∷ Data None a ∷ ws) h v = let f = at-head p (Data None a ∷ ws) t v in let w = f .2 in clash (cc)
 passing-tells p n (Head t ∷ Data (Some c) a ∷ ws) h v =
     let f = at-head p (Data (Some c) a ∷ ws) t v in
     let q = reached t true p in

@@ -17,6 +17,7 @@ use Rattle.post_log.specs.declared.word.Word.the-variants.{Head}
 use Rattle.post_log.specs.Classes.{rank}
 use Rattle.post_log.specs.Rules.{before, Timed, Ends, InPlace, Rising, Stands, StandsTo}
 use Rattle.post_log.specs.Verdict.{reached, passed}
+use Rattle.post_log.proofs.Clash.{clash}
 
 -- what holds of each number below i, and of i
 pub below-suc : (P : ℕ → Type 0) (i : ℕ) → ((j : ℕ) → j < i → P j) → P i → (j : ℕ) → j < suc i → P j
@@ -46,12 +47,12 @@ module _ (ws : List Word) where
 
   -- no record ends where a floor or a head stands
   timed-not-end : (i t u : ℕ) (c : Class) → Timed ws i t → Ends ws i u c → ⊥
-  timed-not-end i t u c (inl a) e = let f = e .2 in let z : _≡_ {A = ℕ} 0 1 = cc in omega arith
-  timed-not-end i t u c (inr a) e = let f = e .2 in let z : _≡_ {A = ℕ} 0 1 = cc in omega arith
+  timed-not-end i t u c (inl a) e = let f = e .2 in clash (cc)
+  timed-not-end i t u c (inr a) e = let f = e .2 in clash (cc)
 
   -- where a record ends, its head stands before
   end-timed : (i t : ℕ) (c : Class) → Ends ws i t c → (j : ℕ) × (j < i) × Timed ws j t
-  end-timed zero t c e = let f = e .1 in let z : _≡_ {A = ℕ} 0 1 = cc in let q : ⊥ = omega arith in elim q [ ]
+  end-timed zero t c e = let f = e .1 in clash (cc)
   end-timed (suc i) t c e = (i, omega arith, inr (e .1))
 
   module _ (i : ℕ) (p : Progress) (u : Upto i p) where

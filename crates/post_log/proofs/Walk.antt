@@ -26,6 +26,7 @@ use Rattle.post_log.specs.Verdict.{judged, timed, reached, passed, start, body
 use Rattle.post_log.specs.Words.{is-data}
 use Rattle.post_log.proofs.Body.{going-on}
 use Rattle.post_log.proofs.Upto.{Upto, falls, class-falls, reach, pass}
+use Rattle.post_log.proofs.Clash.{clash}
 
 -- a floor's or a head's instant
 abbrev instant-of : Word → Option ℕ
@@ -42,7 +43,7 @@ data-first (Silence n ∷ ws) z = absurd (false≢true z)
 data-first (Data c a ∷ ws) z = (c, a, refl)
 
 first-data : (ws : List Word) (c : Option Class) (a : ℕ) → nth ws 0 ≡ Some (Data c a) → data-next ws ≡ true
-first-data [] c a e = let z : _≡_ {A = ℕ} 0 1 = cc in let q : ⊥ = omega arith in absurd q
+first-data [] c a e = clash (cc)
 first-data (w ∷ ws) c a e = let same : w ≡ Data c a = cc in ap is-data same
 
 below-none : (j : ℕ) → j < 0 → ⊥
@@ -76,8 +77,8 @@ module _ (ws : List Word) where
   placed-by i w e fits v x = let same : w ≡ v = cc in subst (Fits ws i) same fits
 
   untimed : (i : ℕ) (w : Word) → nth ws i ≡ Some w → instant-of w ≡ None → (t : ℕ) → Timed ws i t → ⊥
-  untimed i w e none t (inl x) = let same : w ≡ Floor t = cc in let k = ap instant-of same in let z : _≡_ {A = ℕ} 0 1 = cc in omega arith
-  untimed i w e none t (inr x) = let same : w ≡ Head t = cc in let k = ap instant-of same in let z : _≡_ {A = ℕ} 0 1 = cc in omega arith
+  untimed i w e none t (inl x) = let same : w ≡ Floor t = cc in let k = ap instant-of same in clash (cc)
+  untimed i w e none t (inr x) = let same : w ≡ Head t = cc in let k = ap instant-of same in clash (cc)
 
   module _ (i : ℕ) (p : Progress) (u : Upto ws i p) where
     -- a floor or a head
@@ -98,7 +99,7 @@ module _ (ws : List Word) where
         (λ y. (i, u .place, (u .stands, λ placed. let fits = placed (Silence n) e in omega (arith, eqb-true n 0 y))))
         (λ z.
         pass ws i p u (p .rank) (untimed i (Silence n) e refl) (placed-by i (Silence n) e (omega (arith, eqb-false n 0 z))) (omega arith)
-        (λ t c x. let y = x .2 in let z : _≡_ {A = ℕ} 0 1 = cc in let q : ⊥ = omega arith in absurd q)
+        (λ t c x. let y = x .2 in clash (cc))
         (inl refl))
 
     at-data : (c : Class) (a : ℕ) (f : Bool) (h : Bool) → nth ws i ≡ Some (Data (Some c) a) → p .headed ≡ h → Steps i (cond h (cond (ltb (rank c) (p .rank)) (Err (Falling (p .place))) (Ok (passed (rank c) p))) (Err (Misplaced (p .place))))
@@ -114,7 +115,7 @@ module _ (ws : List Word) where
     at-data c a f false e y = (i, u .place, (u .stands, λ placed. let fits = placed (Data (Some c) a) e in u .no-head y (fits .0) (fits .1)))
 
     step : (w : Word) (f : Bool) → nth ws i ≡ Some w → Followed (suc i) f → Steps i (judged w f p)
-    step (Floor t) f e d = at-timed t false (inl e) (placed-by i (Floor t) e tt) (λ z. absurd (false≢true z)) (λ _ s x. let z : _≡_ {A = ℕ} 0 1 = cc in omega arith)
+    step (Floor t) f e d = at-timed t false (inl e) (placed-by i (Floor t) e tt) (λ z. absurd (false≢true z)) (λ _ s x. clash (cc))
     step (Head t) f e d = at-head t f e d
     step (Silence n) f e d = at-silence n f e
     step (Data None a) f e d = (i, u .place, (u .stands, λ placed. let fits = placed (Data None a) e in false≢true (fits .2)))
@@ -146,7 +147,7 @@ module _ (ws : List Word) where
         | inr l ↦
             let e : i + (j - i) ≡ j = omega arith in
             let past : nth ws j ≡ None = subst (λ n. nth ws n ≡ None) e (r (j - i)) in
-            let empty : (w : Word) → nth ws j ≡ Some w → ⊥ = λ w x. let z : _≡_ {A = ℕ} 0 1 = cc in omega arith in (
+            let empty : (w : Word) → nth ws j ≡ Some w → ⊥ = λ w x. clash (cc) in (
               λ w x. absurd (empty w x),
               record { instant = λ k t v b x y. elim y [ inl z ↦ absurd (empty (Floor v) z) | inr z ↦ absurd (empty (Head v) z) ]; class = λ k t c d b x y. absurd (empty (Data (Some d) (y .0)) (y .2)) },
             )
@@ -174,7 +175,7 @@ begun ws =
       class-highest = λ j h. absurd (below-none j h);
       class-met = inl refl;
       head = λ z. absurd (false≢true z);
-      no-head = λ _ t x. let z : _≡_ {A = ℕ} 0 1 = cc in omega arith;
+      no-head = λ _ t x. clash (cc);
     }
 
 pub says : (ws : List Word) → Says ws (body-verdict start ws)

@@ -28,6 +28,7 @@ use Rattle.post_log.specs.Entries.{Told}
 use Rattle.post_log.proofs.Header.{going-on}
 use Rattle.post_log.proofs.Telling.{told}
 use Rattle.post_log.proofs.Walk.{Says, says}
+use Rattle.post_log.proofs.Clash.{clash}
 
 abbrev Ruled : List ℕ → Option Refusal → Type 0
 Ruled ws v = Cases v (Lawful ws) (λ e. Refused ws (number e) (place e))
@@ -105,8 +106,8 @@ body-passes h n ws e = grind (arith, tells)
 
 -- words that pass tell what they spell
 told-from-none : (ws : List ℕ) → Narrow ws → verdict ws ≡ None → Told (body ws)
-told-from-none [] h e = let z : _≡_ {A = ℕ} 0 1 = cc in let q : ⊥ = omega arith in absurd q
-told-from-none (w ∷ []) h e = let z : _≡_ {A = ℕ} 0 1 = cc in let q : ⊥ = omega arith in absurd q
+told-from-none [] h e = clash (cc)
+told-from-none (w ∷ []) h e = clash (cc)
 told-from-none (w ∷ n ∷ ws) h e = told ws (λ i. h (suc (suc i))) (body-passes w n ws e)
 
 decided-from : (ws : List ℕ) (v : Option Refusal) → Ruled ws v → Decided ws v
