@@ -112,12 +112,13 @@ fn data_next(words: &[u32]) -> bool
     }
 }
 
-fn judge_body(body: &[u32]) -> Result<(), Refusal>
-    requires { ⌜ length (now body) ≤ 16382 ⌝ }
-    ensures { λ r. ⌜ errPart r ≡ body-verdict start (map word-of (now (body .entry))) ⌝ }
+// Judges the words of a body from the left.
+fn judge_body(words: &[u32]) -> Result<(), Refusal>
+    requires { ⌜ length (now words) ≤ 16382 ⌝ }
+    ensures { λ r. ⌜ errPart r ≡ body-verdict start (map word-of (now (words .entry))) ⌝ }
 {
     let mut progress = Progress::new();
-    let mut rest = body;
+    let mut rest = words;
     while let [bits, after @ ..] = rest {
         progress = progress.judge(Word::from_bits(*bits), data_next(after))?;
         rest = after;
