@@ -10,7 +10,7 @@ ghost use Rattle.post_log.specs.Verdict.{Passes};
 ghost use Rattle.post_log.specs.Words.{body, post, Narrow};
 use crate::entries::Entries;
 
-// Not `Copy`: a log has one reader.
+// Not `Copy`: whoever a log is handed on to has it alone.
 #[derive(Drop)]
 pub struct CheckedLog<'a> {
     words: &'a [u32],
