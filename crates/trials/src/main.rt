@@ -1,6 +1,8 @@
 // SPDX-License-Identifier: MIT OR Apache-2.0
 // Logs as lines of hexadecimal words on standard input: prints what the check answers to each, and the records of those that
 // it accepts.
+#![tactic(auto)]
+
 use feed::Line;
 use post_log::{CheckedLog, Entry, check};
 use std::alloc::{AllocError, Global};

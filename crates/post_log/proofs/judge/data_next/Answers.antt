@@ -14,4 +14,4 @@ returns-in-empty c =
 pub returns-in-len1-up : goal.returns-in-len1-up
 returns-in-len1-up c =
     let some : 0 < length c.args.words.now = omega (arith, ltb-false) in
-    c.is_data.ensures ∙ ap is_data c.from-bits.ensures ∙ first_data c.args.words.now some
+    c.is_data.ensures ∙ ap is_data c.from_bits.ensures ∙ first_data c.args.words.now some

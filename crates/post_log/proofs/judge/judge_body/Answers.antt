@@ -19,9 +19,9 @@ pub loop-rest-preserved : goal.loop-rest-preserved
 loop-rest-preserved c =
     let rest : List ℕ = c.loop-rest.rest.now in
     let some : 0 < length rest = omega (arith, ltb-false) in
-    let v = by_first c.loop-rest.progress rest c.from-bits.result c.data_next.result (Ok c.in-ok-progress.progress) some c.from-bits.ensures c.data_next.ensures c.in-ok-progress.ensures in (
+    let v = by_first c.loop-rest.progress rest c.from_bits.result c.data_next.result (Ok c.in_ok-progress.progress) some c.from_bits.ensures c.data_next.ensures c.in_ok-progress.ensures in (
       sym v ∙ c.loop-rest.invariant.0,
-      omega (arith, length-after rest some, moves_on c.from-bits.result c.data_next.result c.loop-rest.progress c.in-ok-progress.progress (sym c.in-ok-progress.ensures), c.loop-rest.invariant.1),
+      omega (arith, length-after rest some, moves_on c.from_bits.result c.data_next.result c.loop-rest.progress c.in_ok-progress.progress (sym c.in_ok-progress.ensures), c.loop-rest.invariant.1),
     )
 
 pub returns : goal.returns

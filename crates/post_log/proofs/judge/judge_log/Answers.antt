@@ -21,5 +21,5 @@ returns-in-err-judge-header c =
 
 pub returns : goal.returns
 returns c =
-    let e = c.judge-body.ensures ∙ by_header c.args.words.now None (omega (arith, ltb-false)) c.in-ok-judge-header.ensures in
-    record { value = e; decided = decided_as c.args.words.now (result_err c.judge-body.result) e; told = told_as c.args.words.now c.judge-body.result (λ i. (c.type-inv.words i).fits) e; narrow = λ i. (c.type-inv.words i).fits }
+    let e = c.judge_body.ensures ∙ by_header c.args.words.now None (omega (arith, ltb-false)) c.in_ok-judge_header.ensures in
+    record { value = e; decided = decided_as c.args.words.now (result_err c.judge_body.result) e; told = told_as c.args.words.now c.judge_body.result (λ i. (c.ok.words i).fits) e; narrow = λ i. (c.ok.words i).fits }

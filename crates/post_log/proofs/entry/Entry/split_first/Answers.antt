@@ -12,4 +12,4 @@ slice-bounds-result-start c =
     search rules
 
 pub returns : goal.returns
-returns c = (after_first c.args.number c.args.words.now c.in-ok-entry.ensures c.width.ensures).0
+returns c = (after_first c.args.number c.args.words.now c.in_ok-entry.ensures c.width.ensures).0
