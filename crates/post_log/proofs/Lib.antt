@@ -2,7 +2,6 @@
 pub mod Clash
 pub mod Ranks
 mod Bits
-mod Entering
 mod Body
 mod Header
 mod Upto

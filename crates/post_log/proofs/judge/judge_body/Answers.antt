@@ -7,12 +7,12 @@ use Rattle.post_log.specs.Verdict.{body_verdict}
 use Rattle.post_log.proofs.Body.{by_first, moves_on, length-after}
 use Rattle.post_log.proofs.judge.judge_body.Goals as goal
 
-pub returns-in-err-progress : goal.returns-in-err-progress
-returns-in-err-progress c =
+pub returns-in_err-progress : goal.returns-in_err-progress
+returns-in_err-progress c =
     let rest : List ℕ = c.loop-rest.rest.now in
     let some : 0 < length rest = omega (arith, ltb-false) in
-    let v = by_first c.loop-rest.progress rest c.from-bits.result c.data_next.result (Err c.in-err-progress.field-0.0) some c.from-bits.ensures c.data_next.ensures c.in-err-progress.ensures in
-    let p = err_from_is_err_and c.from-residual.result c.from-residual.ensures.1 in
+    let v = by_first c.loop-rest.progress rest c.from_bits.result c.data_next.result (Err c.in_err-progress.field-0.0) some c.from_bits.ensures c.data_next.ensures c.in_err-progress.ensures in
+    let p = err_from_is_err_and c.from_residual.result c.from_residual.ensures.1 in
     rw (p.1, p.2) (sym v ∙ c.loop-rest.invariant.0)
 
 pub loop-rest-preserved : goal.loop-rest-preserved
