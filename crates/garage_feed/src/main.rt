@@ -3,11 +3,11 @@
 // record, or why there is none.
 #![tactic(auto)]
 
-use anyhow::anyhow;
 use feed::{Failure, MOST_BYTES, list};
 use std::io::Read;
+use std::process::ExitCode;
 
-fn main(rt: HostRuntime) -> anyhow::Result<()> {
+fn main(rt: HostRuntime) -> anyhow::Result<ExitCode> {
     let heap = rt.alloc();
     let mut input = Vec::new(heap);
     // one byte more than is listed, so that a longer input shows
@@ -17,15 +17,15 @@ fn main(rt: HostRuntime) -> anyhow::Result<()> {
     match list(heap, input.as_slice()) {
         Ok(listing) => {
             print!(rt; "{listing}")?;
-            Ok(())
+            Ok(ExitCode::SUCCESS)
         }
         Err(failure) => {
             match failure {
                 Failure::Refused(_) => println!(rt; "{failure}")?,
                 _ => eprintln!(rt; "garage_feed: {failure}")?,
             }
-            // only the status tells: what an `Err` of `main` holds is not shown
-            Err(anyhow!("no listing"))
+            // nothing but the status tells the rest: an `Err` of `main` would be printed
+            Ok(ExitCode::FAILURE)
         }
     }
 }

@@ -7,10 +7,10 @@ use Rattle.feed.proofs.input.words.Goals as goal
 pub loop-rest-preserved : goal.loop-rest-preserved
 loop-rest-preserved c =
     word_more c.loop-rest.rest.now (vec_items c.loop-rest.words) (vec_items c.push.new.self) c.word.result
-    (omega (arith, ltb-false)) c.word.ensures c.in-ok-push.ensures.items
+    (omega (arith, ltb-false)) c.word.ensures c.in_ok-push.ensures.items
     ∙ c.loop-rest.invariant
 
 pub returns : goal.returns
 returns c =
     let all = word_all c.loop-rest.rest.now (vec_items c.loop-rest.words) (words_of c.args.bytes.now) (omega (arith, ltb-true)) c.loop-rest.invariant in
-    record { value = all; whole = λ fours. ap spelled all ∙ spelled_words c.args.bytes.now (λ i. (c.type-inv.bytes i).fits) fours }
+    record { value = all; whole = λ fours. ap spelled all ∙ spelled_words c.args.bytes.now (λ i. (c.type_inv.bytes i).fits) fours }
