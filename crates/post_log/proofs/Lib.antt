@@ -2,10 +2,11 @@
 pub mod Clash
 pub mod Ranks
 mod Bits
+pub mod Entering
 mod Body
 mod Header
 mod Upto
 mod Walk
 mod Telling
-mod Whole
-mod Reading
+pub mod Whole
+pub mod Reading

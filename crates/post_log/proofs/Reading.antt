@@ -8,8 +8,7 @@ use Rattle.post_log.specs.declared.entry.Entry.TheVariants.{Record, Floor as Flo
 use Rattle.post_log.specs.declared.word.Word.{Word}
 use Rattle.post_log.specs.declared.word.Word.TheVariants.{Floor, Head, Silence, Data}
 use Rattle.post_log.specs.Words.{word_of}
-use Rattle.post_log.specs.Entries.{entries, spelled, records}
-use Rattle.post_log.specs.Entries.{Splits as SplitAt}
+use Rattle.post_log.specs.Entries.{entries, spelled, records, Splits}
 
 -- two words decide on the first entry
 by_two : (n : ℕ) (w v : Word) (ws : List Word) → slice_get (entries n (w ∷ v ∷ [])) 0 ≡ slice_get (entries n (w ∷ v ∷ ws)) 0
@@ -48,11 +47,11 @@ module _ (n : ℕ) where
   first_of_more (b ∷ d ∷ ws) w v h e f = ap (λ x. first (x ∷ v ∷ [])) e ∙ ap (λ x. first (word_of b ∷ x ∷ [])) f ∙ by_two n (word_of b) (word_of d) (map word_of ws)
 
   -- an entry, and those of the words after it
-  abbrev Splits : List Word → Option Entry → Type 0
-  Splits ws None = entries n ws ≡ []
-  Splits ws (Some e) = (entries n ws ≡ e ∷ entries (n + records (e ∷ [])) (drop (length (spelled e)) ws)) × (length (spelled e) ≤ length ws)
+  abbrev pub SplitsOff : List Word → Option Entry → Type 0
+  SplitsOff ws None = entries n ws ≡ []
+  SplitsOff ws (Some e) = (entries n ws ≡ e ∷ entries (n + records (e ∷ [])) (drop (length (spelled e)) ws)) × (length (spelled e) ≤ length ws)
 
-  splits : (ws : List Word) → Splits ws (first ws)
+  pub splits : (ws : List Word) → SplitsOff ws (first ws)
   splits [] = refl
   splits (Floor t ∷ ws) = (ap (λ m. FloorAt t ∷ entries m ws) (sym (add-zero n)), omega arith)
   splits (Silence k ∷ ws) = (ap (λ m. Silent k ∷ entries m ws) (sym (add-zero n)), omega arith)
@@ -65,9 +64,9 @@ module _ (n : ℕ) where
   splits (Head t ∷ Data (Some c) a ∷ ws) = (refl, omega arith)
 
   -- the words after the first entry have the others
-  pub after_first : (ws : List ℕ) {e : Entry} {k : ℕ} → Some e ≡ first (map word_of ws) → k ≡ length (spelled e) → SplitAt n ws e (between k (length ws) ws) × (k ≤ length ws)
+  pub after_first : (ws : List ℕ) {e : Entry} {k : ℕ} → Some e ≡ first (map word_of ws) → k ≡ length (spelled e) → Splits n ws e (between k (length ws) ws) × (k ≤ length ws)
   after_first ws {e = e} {k = k} h w =
-      let s = subst (Splits (map word_of ws)) (sym h) (splits (map word_of ws)) in
+      let s = subst (SplitsOff (map word_of ws)) (sym h) (splits (map word_of ws)) in
       let rest : drop (length (spelled e)) (map word_of ws) ≡ map word_of (between k (length ws) ws) =
       ap (λ j. drop j (map word_of ws)) (sym w) ∙ drop-map word_of k ws ∙ ap (map word_of) (sym (take_rest ws k)) in (
         record {

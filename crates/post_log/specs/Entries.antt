@@ -41,6 +41,12 @@ records (FloorAt t ∷ es) = records es
 records (Silent k ∷ es) = records es
 records (Record t c n a ∷ es) = 1 + records es
 
+-- an instant has 30 bits and an amount 28, and a silence is of one poll or more
+abbrev pub Sized : Entry → Type 0
+Sized (FloorAt t) = t < 0x4000_0000
+Sized (Silent k) = 0 < k
+Sized (Record t c n a) = (t < 0x4000_0000) × (a < 0x1000_0000)
+
 -- The words ws begin with the entry e, and others follow it.
 pub record Splits (n : ℕ) (ws : List ℕ) (e : Entry) (others : List ℕ) : Type 0 where
   pub first : entries n (map word_of ws) ≡ e ∷ entries (n + records (e ∷ [])) (map word_of others)

@@ -59,12 +59,9 @@ impl<'a> CheckedLog<'a> {
     }
 
     // The caller's words.
-    pub fn into_words(self) -> &'a [u32]
-        ensures held { result ≡ self.entry.words }
-        ensures lawful { Lawful result.now }
-        ensures told { Told (body result.now) }
+    pub fn words(&self) -> &'a [u32]
+        ensures { result ≡ self.now.words }
     {
-        self.meaning();
         self.words
     }
 }

@@ -38,7 +38,7 @@ impl Entry {
     }
 
     // The entry that the words begin with, if they begin with one; a record gets the number.
-    fn first(words: &[u32], number: u32) -> Option<Entry>
+    pub fn first(words: &[u32], number: u32) -> Option<Entry>
         ensures { result ≡ slice_get (entries number (map word_of words.now)) 0 }
     {
         match words {
@@ -76,7 +76,7 @@ impl Entry {
     }
 
     // How many words the entry takes.
-    fn width(self) -> usize
+    pub fn width(self) -> usize
         ensures { result ≡ length (spelled self) }
     {
         match self {
@@ -86,7 +86,7 @@ impl Entry {
     }
 
     // One for a record, and else none.
-    pub(crate) fn records(self) -> u32
+    pub fn records(self) -> u32
         ensures { result ≡ records (self ∷ []) }
     {
         match self {
