@@ -22,7 +22,7 @@ by_two n (Head t) (Data None a) ws = refl
 by_two n (Head t) (Data (Some c) a) ws = refl
 
 -- an entry takes a word for each record in it
-narrow : (e : Entry) → records (e ∷ []) ≤ length (spelled e)
+pub narrow : (e : Entry) → records (e ∷ []) ≤ length (spelled e)
 narrow (FloorAt t) = omega arith
 narrow (Silent k) = omega arith
 narrow (Record t c m a) = omega arith

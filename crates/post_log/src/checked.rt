@@ -59,9 +59,12 @@ impl<'a> CheckedLog<'a> {
     }
 
     // The caller's words.
-    pub fn words(&self) -> &'a [u32]
-        ensures { result ≡ self.now.words }
+    pub fn into_words(self) -> &'a [u32]
+        ensures held { result ≡ self.entry.words }
+        ensures passes { Passes result.now }
+        ensures told { Told (body result.now) }
     {
+        self.meaning();
         self.words
     }
 }

@@ -1,8 +1,8 @@
 -- SPDX-License-Identifier: MIT OR Apache-2.0
 -- A poll hands records out in turn, and spends waits, whatever is ahead.
-use Rattle.std.proofs.Common.{◌≡◌, ℕ, suc, ◌+◌, eqb, List, [], ◌∷◌, Some, Option, sym, refl, ap, ◌∙◌, subst, arith}
+use Rattle.std.proofs.Common.{◌≡◌, ◌+◌, eqb, List, [], ◌∷◌, Some, Option, sym, refl, ap, ◌∙◌, subst, arith}
 use Rattle.std.proofs.lemmas.Bool.{eqb-true, eqb-false, cond_both}
-use Rattle.std.specs.List.{slice_get}
+use Rattle.std.specs.List.{AllByRecursion}
 use Rattle.ordered_stream.specs.declared.answer.Answer.{Answer}
 use Rattle.ordered_stream.specs.declared.answer.Answer.TheVariants.{NoneBefore, Pending}
 use Rattle.ordered_stream.specs.Meaning.{InTurn, Spends}
@@ -23,14 +23,10 @@ NoFloor (Floor t ∷ es) = ⊥
 NoFloor (Silence k ∷ es) = Unit {0}
 NoFloor (Record t c n a ∷ es) = Unit {0}
 
--- each entry is of its size
-abbrev pub AllSized : List Entry → Type 0
-AllSized es = (k : ℕ) (e : Entry) → slice_get es k ≡ Some e → Sized e
-
 pub record Settled (s t : State) : Type 0 where
   pub records : records_in t ≡ records_in s
   pub waits : waits_in t ≡ waits_in s
-  pub sized : AllSized s.ahead → AllSized t.ahead
+  pub sized : AllByRecursion Sized s.ahead → AllByRecursion Sized t.ahead
   pub front : t.silence ≡ 0 → NoFloor t.ahead
 
 -- where nothing is passed
@@ -44,7 +40,7 @@ floors_settle (Floor t ∷ es) s e =
     record {
       records = r.records ∙ ap (records_of s.post) (sym e);
       waits = r.waits ∙ ap (λ l. s.silence + silences l) (sym e);
-      sized = λ h. r.sized (λ k. subst AllSized e h (suc k));
+      sized = λ h. r.sized (subst (AllByRecursion Sized) e h).1;
       front = r.front;
     }
 floors_settle (Silence k ∷ es) s e = stays s (subst NoFloor (sym e) tt)
@@ -60,19 +56,19 @@ settles s =
 abbrev pub Moves : State → Option Slot → Answer Slot Amount × State → Type 0
 Moves s b r = InTurn (records_in s) r.0 (records_in r.1) × Spends (waits_in s) b r.0 (waits_in r.1)
 
-entry_moves : (es : List Entry) (s : State) (b : Option Slot) → s.ahead ≡ es → s.silence ≡ 0 → AllSized es → Moves s b (by_entry es s)
+entry_moves : (es : List Entry) (s : State) (b : Option Slot) → s.ahead ≡ es → s.silence ≡ 0 → AllByRecursion Sized es → Moves s b (by_entry es s)
 entry_moves [] s b e z l = (refl, omega arith)
 entry_moves (Floor t ∷ es) s b e z l = (refl, omega arith)
-entry_moves (Silence k ∷ es) s b e z l = (ap (records_of s.post) e, omega (arith, ap silences e, l 0 (Silence k) refl))
+entry_moves (Silence k ∷ es) s b e z l = (ap (records_of s.post) e, omega (arith, ap silences e, l.0))
 entry_moves (Record t c n a ∷ es) s b e z l = (ap (records_of s.post) e, omega (arith, ap silences e))
 
-answer_moves : (s : State) (b : Option Slot) → AllSized s.ahead → Moves s b (answered s)
+answer_moves : (s : State) (b : Option Slot) → AllByRecursion Sized s.ahead → Moves s b (answered s)
 answer_moves s b l =
     cond_both (eqb s.silence 0) (by_entry s.ahead s) (Pending, waited s) (Moves s b)
     (λ i. entry_moves s.ahead s b refl (eqb-true s.silence 0 i) l)
     (λ i. let some : s.silence ≡ 0 → ⊥ = eqb-false s.silence 0 i in (refl, omega arith))
 
-pub poll_moves : (s : State) (b : Option Slot) → AllSized s.ahead → Moves s b (polled b s)
+pub poll_moves : (s : State) (b : Option Slot) → AllByRecursion Sized s.ahead → Moves s b (polled b s)
 poll_moves s b l =
     let k = settles s in
     let t = settled s in

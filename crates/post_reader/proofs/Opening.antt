@@ -1,15 +1,18 @@
 -- SPDX-License-Identifier: MIT OR Apache-2.0
 -- A log of which only the header is read is sound, and its records are within their limits.
 use Rattle.std.proofs.Common.{◌≡◌, ℕ, suc, ◌+◌, ◌<◌, List, [], ◌∷◌, take, Some, refl, arith}
-use Rattle.std.specs.List.{slice_get}
+use Rattle.std.specs.List.{AllByRecursion, slice_get}
 use Rattle.ordered_stream.specs.Bags.{Each}
 use Rattle.ordered_stream.specs.Meaning.{NoneBelow}
 use Rattle.ordered_stream.proofs.Orders.{UpTo, not_below}
 use Rattle.post_log.specs.declared.class.Class.{Class}
 use Rattle.post_log.specs.declared.entry.Entry.{Entry}
 use Rattle.post_log.specs.declared.entry.Entry.TheVariants.{Floor, Silence, Record}
-use Rattle.post_log.specs.Entries.{entries_of, record-count, EachSized, NotAbove, Told}
+use Rattle.post_log.specs.Entries.{entries_of, records, Sized, NotAbove, Told}
+use Rattle.post_log.specs.Rules.{Lawful}
 use Rattle.post_log.specs.Words.{body}
+use Rattle.post_log.proofs.Entering.{Few, lawful_sized, each_few}
+use Rattle.post_reader.proofs.Ahead.{few_in_body}
 use Rattle.garage.specs.declared.slot.Slot.{Slot}
 use Rattle.garage.specs.Kinds.{slot_order, slot_laws, least}
 use Rattle.garage.proofs.Slots.{slot_up_to}
@@ -19,7 +22,7 @@ use Rattle.post_reader.specs.Reading.{slot, records_of, opened, Rising, Sound}
 -- what the rules say of entries, whose records are numbered from n on
 record Ordered (n : ℕ) (es : List Entry) : Type 0 where
   rising : (j k : ℕ) (e f : Entry) → j < k → slice_get es j ≡ Some e → slice_get es k ≡ Some f → NotAbove e f
-  counted : (k t m a : ℕ) (c : Class) → slice_get es k ≡ Some (Record t c m a) → m ≡ n + record-count (take k es)
+  counted : (k t m a : ℕ) (c : Class) → slice_get es k ≡ Some (Record t c m a) → m ≡ n + records (take k es)
 
 module _ (p : ℕ) where
   -- no record is below o, place by place
@@ -52,15 +55,15 @@ opened_sound p ws told =
       rising = ordered_rises p 0 (entries_of (body ws)) (record { rising = told.rising; counted = λ k t m a c e. omega (arith, told.counted k t m a c e) });
     }
 
--- each record is within the limits, place by place
-all_within : (p : ℕ) → PostWithin p → (es : List Entry) → ((k t n a : ℕ) (c : Class) → slice_get es k ≡ Some (Record t c n a) → RecordWithin (slot p t c n, record { units = a })) → Each RecordWithin (records_of p es)
-all_within p known [] h = tt
-all_within p known (Floor t ∷ es) h = all_within p known es (λ k. h (suc k))
-all_within p known (Silence q ∷ es) h = all_within p known es (λ k. h (suc k))
-all_within p known (Record t c n a ∷ es) h = (h 0 t n a c refl, all_within p known es (λ k. h (suc k)))
+-- each record is within the limits
+all_within : (p : ℕ) → PostWithin p → (es : List Entry) → AllByRecursion Sized es → AllByRecursion Few es → Each RecordWithin (records_of p es)
+all_within p known [] s f = tt
+all_within p known (Floor t ∷ es) s f = all_within p known es s.1 f.1
+all_within p known (Silence q ∷ es) s f = all_within p known es s.1 f.1
+all_within p known (Record t c n a ∷ es) s f =
+    let number : n < 0x10_0000 = omega (arith, f.0) in
+    ((record { instant = s.0.0; post = known; number = number }, s.0.1), all_within p known es s.1 f.1)
 
-pub opened_within : EachSized → (p : ℕ) (ws : List ℕ) → PostWithin p → Told (body ws) → Each RecordWithin (records_of p (entries_of (body ws)))
-opened_within sized p ws known told =
-    all_within p known (entries_of (body ws)) (λ k t n a c e.
-    let fits = sized 0 k (body ws) (Record t c n a) e in
-    (record { instant = fits.0; post = known; number = omega (arith, told.few k t n a c e) }, fits.1))
+pub opened_within : (p : ℕ) (ws : List ℕ) → PostWithin p → Lawful ws → Each RecordWithin (records_of p (entries_of (body ws)))
+opened_within p ws known lawful =
+    all_within p known (entries_of (body ws)) (lawful_sized ws lawful 0 2) (each_few (body ws) (few_in_body ws lawful))

@@ -4,7 +4,7 @@ use Rattle.std.specs.Prelude.{◌≡◌, ℕ, ◌+◌, ◌≤◌, Bool, false, c
 use Rattle.ordered_stream.specs.declared.answer.Answer.{Answer}
 use Rattle.ordered_stream.specs.Streams.{Stream}
 use Rattle.post_log.specs.declared.entry.Entry.{Entry}
-use Rattle.post_log.specs.Entries.{entries, spelled, after, Sized}
+use Rattle.post_log.specs.Entries.{entries, spelled, records, Sized}
 use Rattle.post_log.specs.Words.{word_of}
 use Rattle.garage.specs.declared.amount.Amount.{Amount}
 use Rattle.garage.specs.declared.slot.Slot.{Slot}
@@ -59,7 +59,7 @@ reader_terminated r = cond (r.silence == 0) (all_read r) false
 
 -- The entry at the place, and what follows it.
 pub record AtPlace (r : Reader) (e : Entry) : Type 0 where
-  pub first : (state_of r).ahead ≡ e ∷ ahead_from (words_of r) (r.place + length (spelled e)) (after e r.number)
+  pub first : (state_of r).ahead ≡ e ∷ ahead_from (words_of r) (r.place + length (spelled e)) (r.number + records (e ∷ []))
   pub within : r.place + length (spelled e) ≤ length (words_of r)
   pub sized : Sized e
 
@@ -68,9 +68,13 @@ Next r None = (state_of r).ahead ≡ []
 Next r (Some e) = AtPlace r e
 
 -- The entry at the place is passed.
-abbrev pub Passed : Entry → Reader → Reader → Type 0
-Passed e s t =
-    t ≡ record { words = s.words; post = s.post; place = s.place + length (spelled e); number = after e s.number; silence = s.silence; floor = s.floor }
+pub record Passed (e : Entry) (s t : Reader) : Type 0 where
+  pub words : t.words ≡ s.words
+  pub post : t.post ≡ s.post
+  pub place : t.place ≡ s.place + length (spelled e)
+  pub number : t.number ≡ s.number + records (e ∷ [])
+  pub silence : t.silence ≡ s.silence
+  pub floor : t.floor ≡ s.floor
 
 -- The floors at the place are passed.
 pub record FloorsPassed (s t : Reader) : Type 0 where

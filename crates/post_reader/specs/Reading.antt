@@ -9,7 +9,7 @@ use Rattle.ordered_stream.specs.Orders.{reaches}
 use Rattle.post_log.specs.declared.class.Class.{Class}
 use Rattle.post_log.specs.declared.entry.Entry.{Entry}
 use Rattle.post_log.specs.declared.entry.Entry.TheVariants.{Floor, Silence, Record}
-use Rattle.post_log.specs.Entries.{entries_of, spelled, after}
+use Rattle.post_log.specs.Entries.{entries_of, spelled, records}
 use Rattle.post_log.specs.Words.{body}
 use Rattle.garage.specs.declared.amount.Amount.{Amount}
 use Rattle.garage.specs.declared.slot.Slot.{Slot}
@@ -68,7 +68,7 @@ raised (Some f) s = cond (is_ge (slot_order f s)) f s
 -- an entry is passed, es being those after it: the silence then left, and the floor
 abbrev pub past : Entry → List Entry → ℕ → Option Slot → State → State
 past e es left floor s =
-    record { post = s.post; place = s.place + length (spelled e); number = after e s.number; silence = left; floor = floor; ahead = es }
+    record { post = s.post; place = s.place + length (spelled e); number = s.number + records (e ∷ []); silence = left; floor = floor; ahead = es }
 
 -- each floor that stands before another entry is passed, and raises the floor
 abbrev pub past_floors : List Entry → State → State

@@ -1,16 +1,8 @@
 // SPDX-License-Identifier: MIT OR Apache-2.0
 // A log that is partly read, and how it answers.
-ghost use Rattle.std.specs.Prelude.{◌≡◌, true, [], drop};
-ghost use Rattle.ordered_stream.specs.Bags.{Each};
-ghost use Rattle.ordered_stream.specs.Meaning.{HandsInTurn};
-ghost use Rattle.ordered_stream.specs.Streams.{IsStream};
-ghost use Rattle.post_log.specs.Entries.{Told};
-ghost use Rattle.post_log.specs.Words.{body, post as post-of};
-ghost use Rattle.garage.specs.Kinds.{slot_order, least};
-ghost use Rattle.garage.specs.Limits.{InstantWithin, PostWithin, RecordWithin};
+ghost use Rattle.std.specs.Prelude.{◌≡◌, ◌+◌, ◌≤◌, length, drop};
+ghost use Rattle.post_log.specs.Verdict.{Passes};
 ghost use Rattle.post_reader.specs.Cases.{FloorAlone};
-ghost use Rattle.post_reader.specs.Reading.{opened, raised};
-ghost use Rattle.post_reader.specs.Readers.{unread_of, state_of, reader_records, reader_waits, reader_floor, reader_terminated, all_read, reader_stream, ReaderSound, ReaderAnswers, AtPlace, Next, Passed, FloorsPassed, ByEntry};
 
 use garage::{Amount, Slot};
 use ordered_stream::{Answer, FusedOrderedStream, OrderedStream, TotalOrder, reaches};
@@ -30,6 +22,8 @@ pub struct Reader<'a> {
     silence: u32,
     // no record to come has a lower slot
     floor: Option<Slot>,
+    ghost lawful: { Passes words.now },
+    ghost few: { number + length (drop place words.now) ≤ 16382 },
 }
 
 // The words from a place on, and past their end none.
@@ -43,10 +37,19 @@ fn words_from(words: &[u32], place: usize) -> &[u32]
 }
 
 impl<'a> Reader<'a> {
+    ghost use Rattle.std.specs.Prelude.{true, []};
+    ghost use Rattle.ordered_stream.specs.Bags.{Each};
+    ghost use Rattle.post_log.specs.Entries.{Told};
+    ghost use Rattle.post_log.specs.Words.{body, post as post_of};
+    ghost use Rattle.garage.specs.Kinds.{least};
+    ghost use Rattle.garage.specs.Limits.{InstantWithin, PostWithin, RecordWithin};
+    ghost use Rattle.post_reader.specs.Reading.{opened, raised};
+    ghost use Rattle.post_reader.specs.Readers.{unread_of, state_of, reader_records, all_read, ReaderSound, AtPlace, Next, Passed, FloorsPassed, ByEntry};
+
     // Reads a log from its body's first word.
     pub fn new(log: CheckedLog<'a>) -> Self
         ensures words { result.words ≡ log.entry.words }
-        ensures state { state_of result ≡ opened (post-of log.entry.words.now) log.entry.words.now }
+        ensures state { state_of result ≡ opened (post_of log.entry.words.now) log.entry.words.now }
         ensures sound { ReaderSound result }
         ensures within { Each RecordWithin (reader_records result) }
     {
@@ -56,6 +59,7 @@ impl<'a> Reader<'a> {
 
     // The same, of the words of a log and its post.
     fn open(words: &'a [u32], post: u32) -> Self
+        requires passes { Passes words.now }
         requires told { Told (body words.now) }
         requires known { PostWithin post }
         ensures words { result.words ≡ words.entry }
@@ -63,7 +67,6 @@ impl<'a> Reader<'a> {
         ensures sound { ReaderSound result }
         ensures within { Each RecordWithin (reader_records result) }
     {
-        Entry::meaning();
         Reader {
             words,
             post,
@@ -102,7 +105,7 @@ impl<'a> Reader<'a> {
         ensures { result ≡ raised self.now.floor (least instant) }
     {
         let Ok(least) = Slot::least_of(instant) else {
-            unreachable()
+            unreachable!()
         };
         match self.floor {
             Some(floor) if floor.compare(least).is_ge() => floor,
@@ -116,7 +119,7 @@ impl<'a> Reader<'a> {
         ensures { Passed entry self.old self.new }
     {
         self.place += entry.width();
-        self.number = entry.number_after(self.number);
+        self.number += entry.records();
     }
 
     // Passes each floor at the place.
@@ -169,6 +172,11 @@ impl<'a> Reader<'a> {
 }
 
 impl<'a> OrderedStream for Reader<'a> {
+    ghost use Rattle.ordered_stream.specs.Meaning.{HandsInTurn};
+    ghost use Rattle.ordered_stream.specs.Streams.{IsStream};
+    ghost use Rattle.garage.specs.Kinds.{slot_order};
+    ghost use Rattle.post_reader.specs.Readers.{reader_records, reader_waits, reader_floor, reader_stream, ReaderSound, ReaderAnswers};
+
     type Ordering = Slot;
 
     type Data = Amount;
@@ -206,12 +214,12 @@ impl<'a> OrderedStream for Reader<'a> {
         ensures laws { IsStream slot_order reader_stream }
         // and the records come in the log's order
         ensures in_turn { HandsInTurn reader_records ReaderAnswers }
-    {
-        Entry::meaning();
-    }
+    {}
 }
 
 impl<'a> FusedOrderedStream for Reader<'a> {
+    ghost use Rattle.post_reader.specs.Readers.{reader_terminated};
+
     ghost terminated = { reader_terminated };
 
     fn is_terminated(&self) -> bool {

@@ -5,5 +5,5 @@ use Rattle.post_reader.proofs.reader.Reader.all_read.Goals as goal
 
 pub returns : goal.returns
 returns c =
-    let same = c.is-empty.ensures ∙ ap (λ l. eqb (length l) 0) c.unread.ensures in
+    let same = c.is_empty.ensures ∙ ap (λ l. eqb (length l) 0) c.unread.ensures in
     record { value = same; told = λ h. none_ahead c.args.self.now (sym same ∙ h) }
