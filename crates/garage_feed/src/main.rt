@@ -24,7 +24,7 @@ fn main(rt: HostRuntime) -> anyhow::Result<ExitCode> {
                 Failure::Refused(_) => println!(rt; "{failure}")?,
                 _ => eprintln!(rt; "garage_feed: {failure}")?,
             }
-            // nothing but the status tells the rest: an `Err` of `main` would be printed
+            // all is said, but for the status; an `Err` of `main` would be printed as well
             Ok(ExitCode::FAILURE)
         }
     }

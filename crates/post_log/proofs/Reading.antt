@@ -75,3 +75,6 @@ module _ (n : ℕ) where
         },
         omega (arith, s.1, length-map ws word_of),
       )
+
+-- what decides on the first entry, by how many words there are
+pub ruleset first_words = (first_of_none, first_of_one, first_of_more)

@@ -62,6 +62,7 @@ impl<'a> CheckedLog<'a> {
     pub fn into_words(self) -> &'a [u32]
         ensures held { result ≡ self.entry.words }
         ensures passes { Passes result.now }
+        ensures lawful { Lawful result.now }
         ensures told { Told (body result.now) }
     {
         self.meaning();

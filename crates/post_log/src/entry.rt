@@ -38,6 +38,7 @@ impl Entry {
     }
 
     // The entry that the words begin with, if they begin with one; a record gets the number.
+    #[tactic(auto, using(crate::proofs::Reading::first_words))]
     pub fn first(words: &[u32], number: u32) -> Option<Entry>
         ensures { result ≡ slice_get (entries number (map word_of words.now)) 0 }
     {
