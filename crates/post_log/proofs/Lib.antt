@@ -2,11 +2,11 @@
 pub mod Clash
 pub mod Ranks
 mod Bits
-pub mod Entering
+mod Entering
 mod Body
 mod Header
 mod Upto
 mod Walk
 mod Telling
-pub mod Whole
-pub mod Reading
+mod Whole
+mod Reading

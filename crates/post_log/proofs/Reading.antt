@@ -8,7 +8,7 @@ use Rattle.post_log.specs.declared.entry.Entry.TheVariants.{Record, Floor as Flo
 use Rattle.post_log.specs.declared.word.Word.{Word}
 use Rattle.post_log.specs.declared.word.Word.TheVariants.{Floor, Head, Silence, Data}
 use Rattle.post_log.specs.Words.{word_of}
-use Rattle.post_log.specs.Entries.{entries, spelled, records, Splits}
+use Rattle.post_log.specs.Entries.{entries, spelled, records, Splits, Begins, FirstBegins}
 
 -- two words decide on the first entry
 by_two : (n : ℕ) (w v : Word) (ws : List Word) → slice_get (entries n (w ∷ v ∷ [])) 0 ≡ slice_get (entries n (w ∷ v ∷ ws)) 0
@@ -22,7 +22,7 @@ by_two n (Head t) (Data None a) ws = refl
 by_two n (Head t) (Data (Some c) a) ws = refl
 
 -- an entry takes a word for each record in it
-pub narrow : (e : Entry) → records (e ∷ []) ≤ length (spelled e)
+narrow : (e : Entry) → records (e ∷ []) ≤ length (spelled e)
 narrow (FloorAt t) = omega arith
 narrow (Silent k) = omega arith
 narrow (Record t c m a) = omega arith
@@ -47,11 +47,11 @@ module _ (n : ℕ) where
   first_of_more (b ∷ d ∷ ws) w v h e f = ap (λ x. first (x ∷ v ∷ [])) e ∙ ap (λ x. first (word_of b ∷ x ∷ [])) f ∙ by_two n (word_of b) (word_of d) (map word_of ws)
 
   -- an entry, and those of the words after it
-  abbrev pub SplitsOff : List Word → Option Entry → Type 0
+  abbrev SplitsOff : List Word → Option Entry → Type 0
   SplitsOff ws None = entries n ws ≡ []
   SplitsOff ws (Some e) = (entries n ws ≡ e ∷ entries (n + records (e ∷ [])) (drop (length (spelled e)) ws)) × (length (spelled e) ≤ length ws)
 
-  pub splits : (ws : List Word) → SplitsOff ws (first ws)
+  splits : (ws : List Word) → SplitsOff ws (first ws)
   splits [] = refl
   splits (Floor t ∷ ws) = (ap (λ m. FloorAt t ∷ entries m ws) (sym (add-zero n)), omega arith)
   splits (Silence k ∷ ws) = (ap (λ m. Silent k ∷ entries m ws) (sym (add-zero n)), omega arith)
@@ -75,6 +75,19 @@ module _ (n : ℕ) where
         },
         omega (arith, s.1, length-map ws word_of),
       )
+
+  -- the same of words that are not taken apart
+  begins_from : (ws : List ℕ) (r : Option Entry) → SplitsOff (map word_of ws) r → Begins n ws r
+  begins_from ws None s = s
+  begins_from ws (Some e) s =
+      record {
+        first = s.0 ∙ ap (λ v. e ∷ entries (n + records (e ∷ [])) v) (drop-map word_of (length (spelled e)) ws);
+        within = omega (arith, s.1, length-map ws word_of);
+        narrow = narrow e;
+      }
+
+pub first_begins : FirstBegins
+first_begins n ws r e = begins_from n ws r (subst (SplitsOff n (map word_of ws)) (sym e) (splits n (map word_of ws)))
 
 -- what decides on the first entry, by how many words there are
 pub ruleset first_words = (first_of_none, first_of_one, first_of_more)

@@ -1,13 +1,14 @@
 -- SPDX-License-Identifier: MIT OR Apache-2.0
 -- What the words of a log's body say. Assumes nothing.
-use Rattle.std.specs.Prelude.{◌≡◌, ℕ, ◌+◌, ◌<◌, ◌≤◌, List, [], ◌∷◌, ◌++◌, map, length, take, Some, None}
-use Rattle.std.specs.List.{slice_get}
+use Rattle.std.specs.Prelude.{◌≡◌, ℕ, ◌+◌, ◌<◌, ◌≤◌, List, [], ◌∷◌, ◌++◌, map, length, take, drop, Some, None, Option}
+use Rattle.std.specs.List.{AllByRecursion, slice_get}
 use Rattle.post_log.specs.declared.class.Class.{Class}
 use Rattle.post_log.specs.declared.entry.Entry.{Entry}
 use Rattle.post_log.specs.declared.entry.Entry.TheVariants.{Record, Floor as FloorAt, Silence as Silent}
 use Rattle.post_log.specs.declared.word.Word.{Word}
 use Rattle.post_log.specs.declared.word.Word.TheVariants.{Floor, Head, Silence, Data}
 use Rattle.post_log.specs.Classes.{rank}
+use Rattle.post_log.specs.Verdict.{Passes}
 use Rattle.post_log.specs.Words.{word_of, bits}
 
 -- the entries of words in turn, up to a word that begins none; their records are numbered from n
@@ -46,6 +47,26 @@ abbrev pub Sized : Entry → Type 0
 Sized (FloorAt t) = t < 0x4000_0000
 Sized (Silent k) = 0 < k
 Sized (Record t c n a) = (t < 0x4000_0000) × (a < 0x1000_0000)
+
+-- each entry of words that pass, from any place on, is of its size
+abbrev pub EachSized : Type 0
+EachSized = (ws : List ℕ) → Passes ws → (n place : ℕ) → AllByRecursion Sized (entries n (map word_of (drop place ws)))
+
+-- The words ws begin with the entry e: the words after its own say the others.
+pub record Leads (n : ℕ) (ws : List ℕ) (e : Entry) : Type 0 where
+  pub first : entries n (map word_of ws) ≡ e ∷ entries (n + records (e ∷ [])) (map word_of (drop (length (spelled e)) ws))
+  pub within : length (spelled e) ≤ length ws
+  -- it has a word or more for each record in it
+  pub narrow : records (e ∷ []) ≤ length (spelled e)
+
+-- they begin with an entry or with none
+abbrev pub Begins : ℕ → List ℕ → Option Entry → Type 0
+Begins n ws None = entries n (map word_of ws) ≡ []
+Begins n ws (Some e) = Leads n ws e
+
+-- the first of the entries of words is what the words begin with
+abbrev pub FirstBegins : Type 0
+FirstBegins = (n : ℕ) (ws : List ℕ) (r : Option Entry) → r ≡ slice_get (entries n (map word_of ws)) 0 → Begins n ws r
 
 -- The words ws begin with the entry e, and others follow it.
 pub record Splits (n : ℕ) (ws : List ℕ) (e : Entry) (others : List ℕ) : Type 0 where

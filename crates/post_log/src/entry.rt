@@ -3,7 +3,7 @@
 ghost use Rattle.std.specs.Prelude.{◌≡◌, [], ◌∷◌, map, length, MatchOption};
 ghost use Rattle.std.specs.List.{slice_get};
 ghost use Rattle.std.specs.Option.{option_to_list};
-ghost use Rattle.post_log.specs.Entries.{entries, spelled, records, Splits};
+ghost use Rattle.post_log.specs.Entries.{entries, spelled, records, Splits, FirstBegins, EachSized};
 ghost use Rattle.post_log.specs.Words.{word_of};
 
 use crate::class::Class;
@@ -29,6 +29,12 @@ pub enum Entry {
 }
 
 impl Entry {
+    // Does nothing: its contract is what words begin with, and what each entry of a log is.
+    pub fn meaning()
+        ensures begins { FirstBegins }
+        ensures sized { EachSized }
+    {}
+
     // The first entry of words, and the words after it; a record gets the number.
     pub(crate) fn split_first(words: &[u32], number: u32) -> Option<(Entry, &[u32])>
         ensures { MatchOption result (entries number (map word_of words.now) ≡ []) (λ x. Splits number words.now x.0 x.1.now) }

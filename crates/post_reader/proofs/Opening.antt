@@ -1,6 +1,7 @@
 -- SPDX-License-Identifier: MIT OR Apache-2.0
 -- A log of which only the header is read is sound, and its records are within their limits.
-use Rattle.std.proofs.Common.{◌≡◌, ℕ, suc, ◌+◌, ◌<◌, List, [], ◌∷◌, take, Some, refl, arith}
+use Rattle.std.proofs.Common.{◌≡◌, ℕ, zero, suc, ◌+◌, ◌<◌, ◌≤◌, List, [], ◌∷◌, length, take, Some, sym, refl, ap, ◌∙◌, arith}
+use Rattle.std.proofs.lemmas.List.{length-map}
 use Rattle.std.specs.List.{AllByRecursion, slice_get}
 use Rattle.ordered_stream.specs.Bags.{Each}
 use Rattle.ordered_stream.specs.Meaning.{NoneBelow}
@@ -8,15 +9,15 @@ use Rattle.ordered_stream.proofs.Orders.{UpTo, not_below}
 use Rattle.post_log.specs.declared.class.Class.{Class}
 use Rattle.post_log.specs.declared.entry.Entry.{Entry}
 use Rattle.post_log.specs.declared.entry.Entry.TheVariants.{Floor, Silence, Record}
-use Rattle.post_log.specs.Entries.{entries_of, records, Sized, NotAbove, Told}
+use Rattle.post_log.specs.Entries.{entries_of, records, spelling, Sized, EachSized, NotAbove, Told}
 use Rattle.post_log.specs.Rules.{Lawful}
-use Rattle.post_log.specs.Words.{body}
-use Rattle.post_log.proofs.Entering.{Few, lawful_sized, each_few}
+use Rattle.post_log.specs.Verdict.{Passes}
+use Rattle.post_log.specs.Words.{bits, body}
 use Rattle.post_reader.proofs.Ahead.{few_in_body}
 use Rattle.garage.specs.declared.slot.Slot.{Slot}
 use Rattle.garage.specs.Kinds.{slot_order, slot_laws, least}
 use Rattle.garage.proofs.Slots.{slot_up_to}
-use Rattle.garage.specs.Limits.{PostWithin, RecordWithin}
+use Rattle.garage.specs.Limits.{NumberWithin, PostWithin, RecordWithin}
 use Rattle.post_reader.specs.Reading.{slot, records_of, opened, Rising, Sound}
 
 -- what the rules say of entries, whose records are numbered from n on
@@ -55,15 +56,24 @@ opened_sound p ws told =
       rising = ordered_rises p 0 (entries_of (body ws)) (record { rising = told.rising; counted = λ k t m a c e. omega (arith, told.counted k t m a c e) });
     }
 
--- each record is within the limits
-all_within : (p : ℕ) → PostWithin p → (es : List Entry) → AllByRecursion Sized es → AllByRecursion Few es → Each RecordWithin (records_of p es)
-all_within p known [] s f = tt
-all_within p known (Floor t ∷ es) s f = all_within p known es s.1 f.1
-all_within p known (Silence q ∷ es) s f = all_within p known es s.1 f.1
-all_within p known (Record t c n a ∷ es) s f =
-    let number : n < 0x10_0000 = omega (arith, f.0) in
-    ((record { instant = s.0.0; post = known; number = number }, s.0.1), all_within p known es s.1 f.1)
+-- as many words as entries' records, or more
+records_up_to : (k : ℕ) (es : List Entry) → records (take k es) ≤ length (spelling es)
+records_up_to zero es = omega arith
+records_up_to (suc k) [] = omega arith
+records_up_to (suc k) (Floor t ∷ es) = omega (arith, records_up_to k es)
+records_up_to (suc k) (Silence q ∷ es) = omega (arith, records_up_to k es)
+records_up_to (suc k) (Record t c n a ∷ es) = omega (arith, records_up_to k es)
 
-pub opened_within : (p : ℕ) (ws : List ℕ) → PostWithin p → Lawful ws → Each RecordWithin (records_of p (entries_of (body ws)))
-opened_within p ws known lawful =
-    all_within p known (entries_of (body ws)) (lawful_sized ws lawful 0 2) (each_few (body ws) (few_in_body ws lawful))
+-- each record is within the limits, place by place
+all_within : (p : ℕ) → PostWithin p → (es : List Entry) → AllByRecursion Sized es → ((k t n a : ℕ) (c : Class) → slice_get es k ≡ Some (Record t c n a) → NumberWithin n) → Each RecordWithin (records_of p es)
+all_within p known [] s h = tt
+all_within p known (Floor t ∷ es) s h = all_within p known es s.1 (λ k. h (suc k))
+all_within p known (Silence q ∷ es) s h = all_within p known es s.1 (λ k. h (suc k))
+all_within p known (Record t c n a ∷ es) s h =
+    ((record { instant = s.0.0; post = known; number = h 0 t n a c refl }, s.0.1), all_within p known es s.1 (λ k. h (suc k)))
+
+pub opened_within : EachSized → (p : ℕ) (ws : List ℕ) → PostWithin p → Passes ws → Lawful ws → Told (body ws) → Each RecordWithin (records_of p (entries_of (body ws)))
+opened_within sized p ws known passes lawful told =
+    let es = entries_of (body ws) in
+    let words : length (spelling es) ≡ length (body ws) = sym (length-map (spelling es) bits) ∙ ap length told.whole in
+    all_within p known es (sized ws passes 0 2) (λ k t n a c e. omega (arith, told.counted k t n a c e, records_up_to k es, words, few_in_body ws lawful))

@@ -61,6 +61,7 @@ reader_terminated r = cond (r.silence == 0) (all_read r) false
 pub record AtPlace (r : Reader) (e : Entry) : Type 0 where
   pub first : (state_of r).ahead ≡ e ∷ ahead_from (words_of r) (r.place + length (spelled e)) (r.number + records (e ∷ []))
   pub within : r.place + length (spelled e) ≤ length (words_of r)
+  pub narrow : records (e ∷ []) ≤ length (spelled e)
   pub sized : Sized e
 
 abbrev pub Next : Reader → Option Entry → Type 0

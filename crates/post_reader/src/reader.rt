@@ -40,6 +40,7 @@ impl<'a> Reader<'a> {
     ghost use Rattle.std.specs.Prelude.{true, []};
     ghost use Rattle.ordered_stream.specs.Bags.{Each};
     ghost use Rattle.post_log.specs.Entries.{Told};
+    ghost use Rattle.post_log.specs.Rules.{Lawful};
     ghost use Rattle.post_log.specs.Words.{body, post as post_of};
     ghost use Rattle.garage.specs.Kinds.{least};
     ghost use Rattle.garage.specs.Limits.{InstantWithin, PostWithin, RecordWithin};
@@ -60,6 +61,7 @@ impl<'a> Reader<'a> {
     // The same, of the words of a log and its post.
     fn open(words: &'a [u32], post: u32) -> Self
         requires passes { Passes words.now }
+        requires lawful { Lawful words.now }
         requires told { Told (body words.now) }
         requires known { PostWithin post }
         ensures words { result.words ≡ words.entry }
@@ -67,6 +69,7 @@ impl<'a> Reader<'a> {
         ensures sound { ReaderSound result }
         ensures within { Each RecordWithin (reader_records result) }
     {
+        Entry::meaning();
         Reader {
             words,
             post,
@@ -96,6 +99,7 @@ impl<'a> Reader<'a> {
     fn next_entry(&self) -> Option<Entry>
         ensures { Next self.now result }
     {
+        Entry::meaning();
         Entry::first(self.unread(), self.number)
     }
 
@@ -214,7 +218,9 @@ impl<'a> OrderedStream for Reader<'a> {
         ensures laws { IsStream slot_order reader_stream }
         // and the records come in the log's order
         ensures in_turn { HandsInTurn reader_records ReaderAnswers }
-    {}
+    {
+        Entry::meaning();
+    }
 }
 
 impl<'a> FusedOrderedStream for Reader<'a> {
