@@ -3,8 +3,8 @@
 """Spells this repository's own definitions and lemmas in snake case, after the kit's port.py: run once, at the top.
 
 A name is one of ours if specs/ or a file of lemmas right in proofs/ declares it: a definition, a constructor, a field, a
-parameter of a module, or what a `where` has. Names of the kit and of goals keep their spelling. Two of ours that would fall
-together in one file stop it.
+parameter of a module, or what a `where` has. Names of the kit and of goals keep their spelling. Two of ours that fall together
+in one file are named, and the exit status is then 1.
 """
 
 import glob

@@ -30,8 +30,8 @@ module _ (bytes ws log later : List ℕ) (p : Passed bytes ws log later) where
   outcome_is : outcome bytes ≡ listed log later
   outcome_is =
       let short : ltb 65536 (length bytes) ≡ false = le-ltb 65536 (length bytes) p.small in
-      let in-fours : eqb (length bytes % 4) 0 ≡ true = eq-eqb (length bytes % 4) 0 p.fours in
-      let start : outcome bytes ≡ judged (first_log (words_of bytes)) (later_words (words_of bytes)) = simp (short, in-fours) in
+      let in_fours : eqb (length bytes % 4) 0 ≡ true = eq-eqb (length bytes % 4) 0 p.fours in
+      let start : outcome bytes ≡ judged (first_log (words_of bytes)) (later_words (words_of bytes)) = simp (short, in_fours) in
       start
       ∙ sym (ap (λ v. judged (first_log v) (later_words v)) p.words)
       ∙ sym (ap (λ v. judged v (later_words ws)) p.first)

@@ -16,10 +16,10 @@ order_between : (x y : ℕ) → Between x y (order x y)
 order_between x y =
     cond_both (ltb x y) Less (cond (eqb x y) Equal Greater) (Between x y)
     (λ less. ltb-true x y less)
-    (λ not-less.
+    (λ not_less.
     cond_both (eqb x y) Equal Greater (Between x y)
     (λ same. eqb-true x y same)
-    (λ apart. omega (arith, ltb-false x y not-less, eqb-false x y apart)))
+    (λ apart. omega (arith, ltb-false x y not_less, eqb-false x y apart)))
 
 -- only one answer fits
 order_is : (x y : ℕ) (r : Ordering) → Between x y r → r ≡ order x y

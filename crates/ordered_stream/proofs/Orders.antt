@@ -17,11 +17,11 @@ module _ {O : Type 0} (rank : O → O → Ordering) (total : OrderLaws rank) whe
 
   -- what is not below u is not below anything up to u
   below_chain : (x o u : O) → UpTo rank o u → (rank x u ≡ Less → ⊥) → rank x o ≡ Less → ⊥
-  below_chain x o u up not-less less = go (rank o u) refl up
+  below_chain x o u up not_less less = go (rank o u) refl up
     where
       go : (r : Ordering) → rank o u ≡ r → is_gt r ≡ false → ⊥
-      go Less e up' = not-less (total.chains x o u less e)
-      go Equal e up' = not-less (subst (λ (z : O). rank x z ≡ Less) (total.same o u e) less)
+      go Less e up' = not_less (total.chains x o u less e)
+      go Equal e up' = not_less (subst (λ (z : O). rank x z ≡ Less) (total.same o u e) less)
       go Greater e up' = false≢true (sym up')
 
   pub none_below_up_to : {D : Type 0} (o u : O) → UpTo rank o u → (xs : List (O × D)) → NoneBelow rank u xs → NoneBelow rank o xs

@@ -22,19 +22,19 @@ data_bits k a h =
 -- the bits of a word taken apart are the word
 bits_word : (w : ℕ) → w < 2 ^ 32 → bits (word_of w) ≡ w
 bits_word w h =
-    let a-class = class (low w / 0x1000_0000) in
-    let an-amount = low w % 0x1000_0000 in
+    let a_class = class (low w / 0x1000_0000) in
+    let an_amount = low w % 0x1000_0000 in
     let P : Word → Type 0 = λ v. bits v ≡ w in
-    cond_both (eqb (kind w) 0) (Floor (low w)) (cond (eqb (kind w) 1) (Head (low w)) (cond (eqb (kind w) 2) (Silence (low w)) (Data a-class an-amount))) P
+    cond_both (eqb (kind w) 0) (Floor (low w)) (cond (eqb (kind w) 1) (Head (low w)) (cond (eqb (kind w) 2) (Silence (low w)) (Data a_class an_amount))) P
     (λ y. omega (arith, eqb-true (kind w) 0 y))
     (λ x.
-    cond_both (eqb (kind w) 1) (Head (low w)) (cond (eqb (kind w) 2) (Silence (low w)) (Data a-class an-amount)) P
+    cond_both (eqb (kind w) 1) (Head (low w)) (cond (eqb (kind w) 2) (Silence (low w)) (Data a_class an_amount)) P
     (λ y. omega (arith, eqb-true (kind w) 1 y))
     (λ y.
-    cond_both (eqb (kind w) 2) (Silence (low w)) (Data a-class an-amount) P
+    cond_both (eqb (kind w) 2) (Silence (low w)) (Data a_class an_amount) P
     (λ z. omega (arith, eqb-true (kind w) 2 z))
     (λ z.
-    let e = data_bits (low w / 0x1000_0000) an-amount (omega arith) in
+    let e = data_bits (low w / 0x1000_0000) an_amount (omega arith) in
     omega (arith, e, eqb-false (kind w) 0 x, eqb-false (kind w) 1 y, eqb-false (kind w) 2 z))))
 
 pub bits_words : (ws : List ℕ) → Narrow ws → map bits (map word_of ws) ≡ ws

@@ -10,27 +10,29 @@ use Rattle.post_log.specs.declared.word.Word.TheVariants.{Floor, Head, Silence, 
 use Rattle.post_log.specs.Classes.{class}
 use Rattle.post_log.specs.Entries.{entries, Sized, EachSized}
 use Rattle.post_log.specs.Rules.{Lawful}
-use Rattle.post_log.proofs.Whole.{lawful_from_passes}
 use Rattle.post_log.specs.Words.{kind, low, word_of}
+use Rattle.post_log.proofs.Whole.{lawful_from_passes}
 
--- an instant has 30 bits and an amount 28, and a silence is of one poll or more
+-- the same of a word
 abbrev Good : Word → Type 0
 Good (Floor t) = t < 0x4000_0000
 Good (Head t) = t < 0x4000_0000
 Good (Silence k) = 0 < k
 Good (Data c a) = a < 0x1000_0000
 
--- whatever a word's bits are, but for a silence's
-good_word : (w : ℕ) → ((k : ℕ) → word_of w ≡ Silence k → 0 < k) → Good (word_of w)
+-- every word is so, if its silence is of one poll or more
+good_word : (w : ℕ) → (kind w ≡ 2 → 0 < low w) → Good (word_of w)
 good_word w h =
     let data_word = Data (class (low w / 0x1000_0000)) (low w % 0x1000_0000) in
-    let P : Word → Type 0 = λ v. ((k : ℕ) → v ≡ Silence k → 0 < k) → Good v in
-    cond_both (eqb (kind w) 0) (Floor (low w)) (cond (eqb (kind w) 1) (Head (low w)) (cond (eqb (kind w) 2) (Silence (low w)) data_word)) P
-    (λ _ _. omega arith)
+    cond_both (eqb (kind w) 0) (Floor (low w)) (cond (eqb (kind w) 1) (Head (low w)) (cond (eqb (kind w) 2) (Silence (low w)) data_word)) Good
+    (λ _. omega arith)
     (λ _.
-    cond_both (eqb (kind w) 1) (Head (low w)) (cond (eqb (kind w) 2) (Silence (low w)) data_word) P
-    (λ _ _. omega arith)
-    (λ _. cond_both (eqb (kind w) 2) (Silence (low w)) data_word P (λ _ s. s (low w) refl) (λ _ _. omega arith))) h
+    cond_both (eqb (kind w) 1) (Head (low w)) (cond (eqb (kind w) 2) (Silence (low w)) data_word) Good
+    (λ _. omega arith)
+    (λ _. cond_both (eqb (kind w) 2) (Silence (low w)) data_word Good (λ is. h (eqb-true (kind w) 2 is)) (λ _. omega arith)))
+
+silence_word : (w : ℕ) → kind w ≡ 2 → word_of w ≡ Silence (low w)
+silence_word w e = rw e refl
 
 entries_sized : (n : ℕ) (ws : List Word) → AllByRecursion Good ws → AllByRecursion Sized (entries n ws)
 entries_sized n [] g = tt
@@ -46,28 +48,16 @@ entries_sized n (Head t ∷ Data (Some c) a ∷ ws) g = ((g.0, g.1.0), entries_s
 
 good_body : (ws : List ℕ) → ((i k : ℕ) → slice_get (map word_of ws) i ≡ Some (Silence k) → 0 < k) → AllByRecursion Good (map word_of ws)
 good_body [] h = tt
-good_body (w ∷ ws) h = (good_word w (λ k e. h 0 k (ap Some e)), good_body ws (λ i. h (suc i)))
+good_body (w ∷ ws) h = (good_word w (λ e. h 0 (low w) (ap Some (silence_word w e))), good_body ws (λ i. h (suc i)))
 
-not_silence : (w : ℕ) → (kind w ≡ 2 → ⊥) → (k : ℕ) → word_of w ≡ Silence k → ⊥
-not_silence w other =
-    let data_word = Data (class (low w / 0x1000_0000)) (low w % 0x1000_0000) in
-    let P : Word → Type 0 = λ v. (k : ℕ) → v ≡ Silence k → ⊥ in
-    cond_both (eqb (kind w) 0) (Floor (low w)) (cond (eqb (kind w) 1) (Head (low w)) (cond (eqb (kind w) 2) (Silence (low w)) data_word)) P
-    (λ _ k e. cc)
-    (λ _.
-    cond_both (eqb (kind w) 1) (Head (low w)) (cond (eqb (kind w) 2) (Silence (low w)) data_word) P
-    (λ _ k e. cc)
-    (λ _. cond_both (eqb (kind w) 2) (Silence (low w)) data_word P (λ is _ _. other (eqb-true (kind w) 2 is)) (λ _ k e. cc)))
-
--- the words of the header are of other kinds
+-- the header's words are no silences, and no silence of a lawful body is of 0 polls
 lawful_good : (ws : List ℕ) → Lawful ws → AllByRecursion Good (map word_of ws)
 lawful_good [] l = absurd l
 lawful_good (h ∷ []) l = absurd l
 lawful_good (h ∷ n ∷ ws) l =
     let head = l.0.0 in
     let few = l.0.1.few in
-    let body = good_body ws (λ i k. (l.1 i).0 (Silence k)) in
-    (good_word h (λ k e. absurd (not_silence h (omega arith) k e)), (good_word n (λ k e. absurd (not_silence n (omega arith) k e)), body))
+    (good_word h (λ e. omega arith), (good_word n (λ e. omega arith), good_body ws (λ i k. (l.1 i).0 (Silence k))))
 
 pub each_sized : EachSized
 each_sized ws p n place =

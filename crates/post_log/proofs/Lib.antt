@@ -2,11 +2,11 @@
 pub mod Clash
 pub mod Ranks
 mod Bits
-mod Entering
 mod Body
 mod Header
 mod Upto
 mod Walk
 mod Telling
 mod Whole
+mod Entering
 mod Reading

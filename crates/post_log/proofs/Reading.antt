@@ -21,7 +21,7 @@ by_two n (Head t) (Silence k) ws = refl
 by_two n (Head t) (Data None a) ws = refl
 by_two n (Head t) (Data (Some c) a) ws = refl
 
--- an entry takes a word for each record in it
+-- an entry takes a word or more for each record in it
 narrow : (e : Entry) → records (e ∷ []) ≤ length (spelled e)
 narrow (FloorAt t) = omega arith
 narrow (Silent k) = omega arith
@@ -76,14 +76,14 @@ module _ (n : ℕ) where
         omega (arith, s.1, length-map ws word_of),
       )
 
-  -- the same of words that are not taken apart
+  -- an entry and those after it, of words that are not taken apart
   begins_from : (ws : List ℕ) (r : Option Entry) → SplitsOff (map word_of ws) r → Begins n ws r
   begins_from ws None s = s
   begins_from ws (Some e) s =
       record {
         first = s.0 ∙ ap (λ v. e ∷ entries (n + records (e ∷ [])) v) (drop-map word_of (length (spelled e)) ws);
         within = omega (arith, s.1, length-map ws word_of);
-        narrow = narrow e;
+        no_more_records = narrow e;
       }
 
 pub first_begins : FirstBegins

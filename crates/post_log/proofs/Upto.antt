@@ -69,7 +69,7 @@ module _ (ws : List Word) where
 
     -- one word further, at an instant that does not fall
     pub reach : (t : ℕ) (h : Bool) → Timed ws i t → p.instant ≤ t → InPlace ws i → (h ≡ true → slice_get ws i ≡ Some (Head t)) → (h ≡ false → (s : ℕ) → slice_get ws i ≡ Some (Head s) → ⊥) → Upto (suc i) (reached t h p)
-    reach t h e l placed is-head no_head =
+    reach t h e l placed is_head no_head =
         record {
           place = omega (arith, u.place);
           stands =
@@ -95,7 +95,7 @@ module _ (ws : List Word) where
               let same = eqb-true t p.instant y in
               elim u.class_met [ inl z ↦ inl z | inr m ↦ inr (m.0, m.1, omega (arith, m.2), subst (λ s. Ends ws m.0 s m.1) (sym same) m.3, m.4) ])
               (λ _. inl refl);
-          head = is-head;
+          head = is_head;
           no_head = no_head;
         }
 

@@ -72,10 +72,10 @@ module _ (ws : List Word) where
   module _ (i : ℕ) (p : Progress) (u : Upto ws i p) where
     -- a floor or a head
     at_timed : (t : ℕ) (h : Bool) → Timed ws i t → InPlace ws i → (h ≡ true → slice_get ws i ≡ Some (Head t)) → (h ≡ false → (s : ℕ) → slice_get ws i ≡ Some (Head s) → ⊥) → Steps i (timed t h p)
-    at_timed t h e placed is-head no_head =
+    at_timed t h e placed is_head no_head =
         cond_both (ltb t p.instant) (Err (Falling p.place)) (Ok (reached t h p)) (Steps i)
         (λ y. (i, u.place, (u.stands, placed, falls ws i p u t e (ltb-true t p.instant y))))
-        (λ n. reach ws i p u t h e (ltb-false t p.instant n) placed is-head no_head)
+        (λ n. reach ws i p u t h e (ltb-false t p.instant n) placed is_head no_head)
 
     at_head : (t : ℕ) (f : Bool) → slice_get ws i ≡ Some (Head t) → Followed (suc i) f → Steps i (judged (Head t) f p)
     at_head t true e d = at_timed t true (inr e) (placed_by i (Head t) e (d.yes refl)) (λ _. e) (λ z. absurd (true≢false z))
@@ -99,7 +99,7 @@ module _ (ws : List Word) where
         (λ l. (i, u.place, (u.stands, placed, class_falls ws i p u c own (ltb-true (rank c) p.rank l))))
         (λ l.
         pass ws i p u (rank c) (untimed i (Data (Some c) a) e refl) placed (ltb-false (rank c) p.rank l)
-        (λ t d x. let here = u.head y in let head = x.1 in let data-word = x.2 in let same : d ≡ c = cc in (cc, ap rank same))
+        (λ t d x. let here = u.head y in let head = x.1 in let data_word = x.2 in let same : d ≡ c = cc in (cc, ap rank same))
         (inr (c, own, refl)))
     at_data c a f false e y = (i, u.place, (u.stands, λ placed. let fits = placed (Data (Some c) a) e in u.no_head y fits.0 fits.1))
 

@@ -48,7 +48,7 @@ Sized (FloorAt t) = t < 0x4000_0000
 Sized (Silent k) = 0 < k
 Sized (Record t c n a) = (t < 0x4000_0000) × (a < 0x1000_0000)
 
--- each entry of words that pass, from any place on, is of its size
+-- of words that pass each entry is so, from any place on
 abbrev pub EachSized : Type 0
 EachSized = (ws : List ℕ) → Passes ws → (n place : ℕ) → AllByRecursion Sized (entries n (map word_of (drop place ws)))
 
@@ -56,8 +56,7 @@ EachSized = (ws : List ℕ) → Passes ws → (n place : ℕ) → AllByRecursion
 pub record Leads (n : ℕ) (ws : List ℕ) (e : Entry) : Type 0 where
   pub first : entries n (map word_of ws) ≡ e ∷ entries (n + records (e ∷ [])) (map word_of (drop (length (spelled e)) ws))
   pub within : length (spelled e) ≤ length ws
-  -- it has a word or more for each record in it
-  pub narrow : records (e ∷ []) ≤ length (spelled e)
+  pub no_more_records : records (e ∷ []) ≤ length (spelled e)
 
 -- they begin with an entry or with none
 abbrev pub Begins : ℕ → List ℕ → Option Entry → Type 0

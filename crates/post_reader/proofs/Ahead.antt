@@ -1,17 +1,16 @@
 -- SPDX-License-Identifier: MIT OR Apache-2.0
 -- The entry at a reader's place.
-use Rattle.std.proofs.Common.{◌≡◌, ℕ, ◌+◌, ◌<◌, ◌≤◌, true, List, [], ◌∷◌, map, length, drop, Some, None, Option, sym, ap, ◌∙◌, subst, arith, length-drop, drop-drop}
+use Rattle.std.proofs.Common.{◌≡◌, ℕ, ◌+◌, ◌<◌, true, List, [], ◌∷◌, map, length, Some, None, Option, sym, ap, ◌∙◌, subst, arith, length-drop, drop-drop}
 use Rattle.std.specs.List.{AllByRecursion}
 use Rattle.std.proofs.lemmas.List.{nil_from_length}
 use Rattle.std.proofs.lemmas.Bool.{eqb-true}
 use Rattle.post_log.specs.declared.entry.Entry.{Entry}
 use Rattle.post_log.specs.declared.entry.Entry.TheVariants.{Floor, Silence, Record}
 use Rattle.post_log.specs.Entries.{entries, spelled, records, Sized, EachSized, Begins}
-use Rattle.post_log.specs.Rules.{Lawful}
 use Rattle.post_log.specs.Words.{word_of}
 use Rattle.post_reader.specs.declared.reader.Reader.{Reader}
 use Rattle.post_reader.specs.Reading.{records_of}
-use Rattle.post_reader.specs.Readers.{words_of, unread_of, all_read, reader_records, AtPlace, Next}
+use Rattle.post_reader.specs.Readers.{words_of, unread_of, all_read, reader_records, Next}
 
 some_word : (e : Entry) → 0 < length (spelled e)
 some_word (Floor t) = omega arith
@@ -26,20 +25,9 @@ next_by sized r u (Some e) same h =
     record {
       first = s.first ∙ ap (λ l. e ∷ entries (r.number + records (e ∷ [])) (map word_of l)) (drop-drop (length (spelled e)) r.place (words_of r));
       within = omega (arith, s.within, length-drop r.place (words_of r), some_word e);
-      narrow = s.narrow;
+      no_more_records = s.no_more_records;
       sized = (subst (AllByRecursion Sized) s.first (sized (words_of r) r.lawful r.number r.place)).0;
     }
-
--- the records of the words after an entry are few, as it has no more records than words
-pub few_after : (r : Reader) (e : Entry) → AtPlace r e → r.number + records (e ∷ []) + length (drop (r.place + length (spelled e)) (words_of r)) ≤ 16382
-few_after r e at =
-    omega (arith, r.few, at.within, at.narrow, length-drop r.place (words_of r), length-drop (r.place + length (spelled e)) (words_of r))
-
--- a log's words after its header are few
-pub few_in_body : (ws : List ℕ) → Lawful ws → length (drop 2 ws) ≤ 16382
-few_in_body [] l = absurd l
-few_in_body (h ∷ []) l = absurd l
-few_in_body (h ∷ n ∷ ws) l = omega (arith, l.0.1.count, l.0.1.few)
 
 -- where no word is left, nothing is to come
 pub none_ahead : (r : Reader) → all_read r ≡ true → reader_records r ≡ []

@@ -16,13 +16,14 @@ use Rattle.garage.specs.declared.slot.Slot.{Slot}
 use Rattle.garage.specs.Kinds.{slot_order, least}
 use Rattle.post_reader.specs.Reading.{State, records_of, silences, records_in, waits_in, raised, past, past_floors, settled, waited, by_entry, answered, polled}
 
--- passing floors takes nothing, and leaves none at the place
+-- no floor is at the place
 abbrev pub NoFloor : List Entry → Type 0
 NoFloor [] = Unit {0}
 NoFloor (Floor t ∷ es) = ⊥
 NoFloor (Silence k ∷ es) = Unit {0}
 NoFloor (Record t c n a ∷ es) = Unit {0}
 
+-- passing floors takes nothing, and leaves none at the place
 pub record Settled (s t : State) : Type 0 where
   pub records : records_in t ≡ records_in s
   pub waits : waits_in t ≡ waits_in s

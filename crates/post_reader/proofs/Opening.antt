@@ -1,6 +1,6 @@
 -- SPDX-License-Identifier: MIT OR Apache-2.0
 -- A log of which only the header is read is sound, and its records are within their limits.
-use Rattle.std.proofs.Common.{◌≡◌, ℕ, zero, suc, ◌+◌, ◌<◌, ◌≤◌, List, [], ◌∷◌, length, take, Some, sym, refl, ap, ◌∙◌, arith}
+use Rattle.std.proofs.Common.{◌≡◌, ℕ, zero, suc, ◌+◌, ◌<◌, ◌≤◌, List, [], ◌∷◌, length, take, drop, Some, sym, refl, ap, ◌∙◌, arith}
 use Rattle.std.proofs.lemmas.List.{length-map}
 use Rattle.std.specs.List.{AllByRecursion, slice_get}
 use Rattle.ordered_stream.specs.Bags.{Each}
@@ -13,7 +13,6 @@ use Rattle.post_log.specs.Entries.{entries_of, records, spelling, Sized, EachSiz
 use Rattle.post_log.specs.Rules.{Lawful}
 use Rattle.post_log.specs.Verdict.{Passes}
 use Rattle.post_log.specs.Words.{bits, body}
-use Rattle.post_reader.proofs.Ahead.{few_in_body}
 use Rattle.garage.specs.declared.slot.Slot.{Slot}
 use Rattle.garage.specs.Kinds.{slot_order, slot_laws, least}
 use Rattle.garage.proofs.Slots.{slot_up_to}
@@ -56,13 +55,19 @@ opened_sound p ws told =
       rising = ordered_rises p 0 (entries_of (body ws)) (record { rising = told.rising; counted = λ k t m a c e. omega (arith, told.counted k t m a c e) });
     }
 
--- as many words as entries' records, or more
+-- of entries, the first k have no more records than all have words
 records_up_to : (k : ℕ) (es : List Entry) → records (take k es) ≤ length (spelling es)
 records_up_to zero es = omega arith
 records_up_to (suc k) [] = omega arith
 records_up_to (suc k) (Floor t ∷ es) = omega (arith, records_up_to k es)
 records_up_to (suc k) (Silence q ∷ es) = omega (arith, records_up_to k es)
 records_up_to (suc k) (Record t c n a ∷ es) = omega (arith, records_up_to k es)
+
+-- a log's words after its header are few
+few_in_body : (ws : List ℕ) → Lawful ws → length (drop 2 ws) ≤ 16382
+few_in_body [] l = absurd l
+few_in_body (h ∷ []) l = absurd l
+few_in_body (h ∷ n ∷ ws) l = omega (arith, l.0.1.count, l.0.1.few)
 
 -- each record is within the limits, place by place
 all_within : (p : ℕ) → PostWithin p → (es : List Entry) → AllByRecursion Sized es → ((k t n a : ℕ) (c : Class) → slice_get es k ≡ Some (Record t c n a) → NumberWithin n) → Each RecordWithin (records_of p es)

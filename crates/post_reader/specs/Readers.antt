@@ -61,7 +61,7 @@ reader_terminated r = cond (r.silence == 0) (all_read r) false
 pub record AtPlace (r : Reader) (e : Entry) : Type 0 where
   pub first : (state_of r).ahead ≡ e ∷ ahead_from (words_of r) (r.place + length (spelled e)) (r.number + records (e ∷ []))
   pub within : r.place + length (spelled e) ≤ length (words_of r)
-  pub narrow : records (e ∷ []) ≤ length (spelled e)
+  pub no_more_records : records (e ∷ []) ≤ length (spelled e)
   pub sized : Sized e
 
 abbrev pub Next : Reader → Option Entry → Type 0
@@ -82,7 +82,7 @@ pub record FloorsPassed (s t : Reader) : Type 0 where
   pub state : state_of t ≡ past_floors (state_of s).ahead (state_of s)
   pub kept : t.words ≡ s.words
 
--- The entry at the place is answered by.
+-- The answer is that of the entry at the place.
 pub record ByEntry (s : Reader) (a : Answer Slot Amount) (t : Reader) : Type 0 where
   pub step : (a, state_of t) ≡ by_entry (state_of s).ahead (state_of s)
   pub kept : t.words ≡ s.words
