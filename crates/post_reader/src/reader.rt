@@ -22,7 +22,9 @@ pub struct Reader<'a> {
     silence: u32,
     // no record to come has a lower slot
     floor: Option<Slot>,
+    // the words are a log's, so that each silence ahead is of one poll or more
     ghost lawful: { Passes words.now },
+    // and no record ahead has a number that runs over
     ghost few: { number + length (drop place words.now) ≤ 16382 },
 }
 
