@@ -1,13 +1,12 @@
 -- SPDX-License-Identifier: MIT OR Apache-2.0
 -- What holds of each entry of a log's words, from any place on.
-use Rattle.std.proofs.Common.{◌≡◌, ℕ, suc, ◌+◌, ◌/◌, ◌%◌, ◌<◌, cond, eqb, List, [], ◌∷◌, map, drop, Some, None, refl, ap, subst, arith}
-use Rattle.std.proofs.lemmas.Bool.{cond_both, eqb-true}
+use Rattle.std.proofs.Common.{◌≡◌, ℕ, suc, ◌+◌, ◌<◌, List, [], ◌∷◌, map, drop, Some, None, refl, ap, subst, arith}
+use Rattle.std.proofs.lemmas.Bool.Decides.{nat_tests}
 use Rattle.std.proofs.lemmas.List.{drop-map}
 use Rattle.std.proofs.lemmas.List.Elements.{All-drop, All-from_recursion, recursion_from_All}
 use Rattle.std.specs.List.{AllByRecursion, slice_get}
 use Rattle.post_log.specs.declared.word.Word.{Word}
 use Rattle.post_log.specs.declared.word.Word.TheVariants.{Floor, Head, Silence, Data}
-use Rattle.post_log.specs.Classes.{class}
 use Rattle.post_log.specs.Entries.{entries, Sized, EachSized}
 use Rattle.post_log.specs.Rules.{Lawful}
 use Rattle.post_log.specs.Words.{kind, low, word_of}
@@ -22,14 +21,7 @@ Good (Data c a) = a < 0x1000_0000
 
 -- every word is so, if its silence is of one poll or more
 good_word : (w : ℕ) → (kind w ≡ 2 → 0 < low w) → Good (word_of w)
-good_word w h =
-    let data_word = Data (class (low w / 0x1000_0000)) (low w % 0x1000_0000) in
-    cond_both (eqb (kind w) 0) (Floor (low w)) (cond (eqb (kind w) 1) (Head (low w)) (cond (eqb (kind w) 2) (Silence (low w)) data_word)) Good
-    (λ _. omega arith)
-    (λ _.
-    cond_both (eqb (kind w) 1) (Head (low w)) (cond (eqb (kind w) 2) (Silence (low w)) data_word) Good
-    (λ _. omega arith)
-    (λ _. cond_both (eqb (kind w) 2) (Silence (low w)) data_word Good (λ is. h (eqb-true (kind w) 2 is)) (λ _. omega arith)))
+good_word w h = grind (arith, nat_tests)
 
 silence_word : (w : ℕ) → kind w ≡ 2 → word_of w ≡ Silence (low w)
 silence_word w e = rw e refl

@@ -1,7 +1,7 @@
 -- SPDX-License-Identifier: MIT OR Apache-2.0
 -- The verdict on a body, by the rules of its places.
-use Rattle.std.proofs.Common.{◌≡◌, ℕ, suc, ◌+◌, ◌-◌, ◌<◌, Bool, true, false, cond, eqb, ltb, List, [], ◌∷◌, Some, None, Ok, Err, Option, Result, sym, refl, ap, ◌∙◌, subst, inl, inr, add-zero, zero-add, arith}
-use Rattle.std.proofs.lemmas.Bool.{cases_lt, cond_both, ltb-true, ltb-false, eqb-true, eqb-false, false≢true, true≢false, both_ways}
+use Rattle.std.proofs.Common.{◌≡◌, ℕ, suc, ◌+◌, ◌-◌, ◌<◌, ◌≤◌, Bool, true, false, cond, eqb, ltb, List, [], ◌∷◌, Some, None, Ok, Err, Option, Result, sym, refl, ap, ◌∙◌, subst, inl, inr, add-zero, zero-add, arith}
+use Rattle.std.proofs.lemmas.Bool.{cases_lt, cond_both, ltb-true, ltb-false, eqb-true, eqb-false, both_ways}
 use Rattle.std.specs.List.{slice_get}
 use Rattle.post_log.specs.declared.class.Class.{Class}
 use Rattle.post_log.specs.declared.judge.Progress.{Progress}
@@ -11,11 +11,9 @@ use Rattle.post_log.specs.declared.word.Word.{Word}
 use Rattle.post_log.specs.declared.word.Word.TheVariants.{Floor, Head, Silence, Data}
 use Rattle.post_log.specs.Classes.{rank}
 use Rattle.post_log.specs.Rules.{Timed, Ends, Fits, InPlace, Stands, StandsTo, FirstMisplaced, FirstFalling}
-use Rattle.post_log.specs.Verdict.{judged, timed, reached, passed, start, body_verdict, data_next}
+use Rattle.post_log.specs.Verdict.{below, judged, timed, reached, passed, start, body_verdict, data_next}
 use Rattle.post_log.specs.Words.{is_data}
-use Rattle.post_log.proofs.Body.{going_on}
-use Rattle.post_log.proofs.Upto.{Upto, falls, class_falls, reach, pass}
-use Rattle.post_log.proofs.Clash.{clash}
+use Rattle.post_log.proofs.Upto.{Upto, Within, later, falls, class_falls, reach, pass}
 
 -- a floor's or a head's instant
 abbrev instant_of : Word → Option ℕ
@@ -25,15 +23,24 @@ instant_of (Silence n) = None
 instant_of (Data c a) = None
 
 data_first : (ws : List Word) → data_next ws ≡ true → (c : Option Class) × (a : ℕ) × (slice_get ws 0 ≡ Some (Data c a))
-data_first [] z = absurd (false≢true z)
-data_first (Floor t ∷ ws) z = absurd (false≢true z)
-data_first (Head t ∷ ws) z = absurd (false≢true z)
-data_first (Silence n ∷ ws) z = absurd (false≢true z)
+data_first [] z = cc
+data_first (Floor t ∷ ws) z = cc
+data_first (Head t ∷ ws) z = cc
+data_first (Silence n ∷ ws) z = cc
 data_first (Data c a ∷ ws) z = (c, a, refl)
 
 first_data : (ws : List Word) (c : Option Class) (a : ℕ) → slice_get ws 0 ≡ Some (Data c a) → data_next ws ≡ true
-first_data [] c a e = clash (cc)
+first_data [] c a e = cc
 first_data (w ∷ ws) c a e = let same : w ≡ Data c a = cc in ap is_data same
+
+-- a class that is not below the latest is above all that are within it
+over : (c : Class) (o : Option Class) → below c o ≡ false → (b : Class) → Within b o → rank b ≤ rank c
+over c None l b h = absurd h
+over c (Some d) l b h = let k = ltb-false (rank c) (rank d) l in omega arith
+
+-- a verdict by the judgement of the first word
+abbrev going_on : List Word → Result Progress Refusal → Option Refusal
+going_on ws r = elim r [ Ok q ↦ body_verdict q ws | Err e ↦ Some e ]
 
 below_none : (j : ℕ) → j < 0 → ⊥
 below_none j h = omega arith
@@ -66,8 +73,8 @@ module _ (ws : List Word) where
   placed_by i w e fits v x = let same : w ≡ v = cc in subst (Fits ws i) same fits
 
   untimed : (i : ℕ) (w : Word) → slice_get ws i ≡ Some w → instant_of w ≡ None → (t : ℕ) → Timed ws i t → ⊥
-  untimed i w e none t (inl x) = let same : w ≡ Floor t = cc in let k = ap instant_of same in clash (cc)
-  untimed i w e none t (inr x) = let same : w ≡ Head t = cc in let k = ap instant_of same in clash (cc)
+  untimed i w e none t (inl x) = let same : w ≡ Floor t = cc in let k = ap instant_of same in cc
+  untimed i w e none t (inr x) = let same : w ≡ Head t = cc in let k = ap instant_of same in cc
 
   module _ (i : ℕ) (p : Progress) (u : Upto ws i p) where
     -- a floor or a head
@@ -78,36 +85,36 @@ module _ (ws : List Word) where
         (λ n. reach ws i p u t h e (ltb-false t p.instant n) placed is_head no_head)
 
     at_head : (t : ℕ) (f : Bool) → slice_get ws i ≡ Some (Head t) → Followed (suc i) f → Steps i (judged (Head t) f p)
-    at_head t true e d = at_timed t true (inr e) (placed_by i (Head t) e (d.yes refl)) (λ _. e) (λ z. absurd (true≢false z))
+    at_head t true e d = at_timed t true (inr e) (placed_by i (Head t) e (d.yes refl)) (λ _. e) (λ z. cc)
     at_head t false e d =
         (i, u.place, (u.stands, λ placed. let fits = placed (Head t) e in d.none refl fits.0 fits.1 fits.2))
 
     at_silence : (n : ℕ) (f : Bool) → slice_get ws i ≡ Some (Silence n) → Steps i (judged (Silence n) f p)
     at_silence n f e =
-        cond_both (eqb n 0) (Err (Misplaced p.place)) (Ok (passed p.rank p)) (Steps i)
+        cond_both (eqb n 0) (Err (Misplaced p.place)) (Ok (passed p.class p)) (Steps i)
         (λ y. (i, u.place, (u.stands, λ placed. let fits = placed (Silence n) e in omega (arith, eqb-true n 0 y))))
         (λ z.
-        pass ws i p u p.rank (untimed i (Silence n) e refl) (placed_by i (Silence n) e (omega (arith, eqb-false n 0 z))) (omega arith)
-        (λ t c x. let y = x.2 in clash (cc))
-        (inl refl))
+        pass ws i p u p.class (untimed i (Silence n) e refl) (placed_by i (Silence n) e (omega (arith, eqb-false n 0 z))) (λ _ x. x)
+        (λ t c x. let y = x.2 in cc)
+        (later ws i p.instant p.class u.class_met))
 
-    at_data : (c : Class) (a : ℕ) (f : Bool) (h : Bool) → slice_get ws i ≡ Some (Data (Some c) a) → p.headed ≡ h → Steps i (cond h (cond (ltb (rank c) p.rank) (Err (Falling p.place)) (Ok (passed (rank c) p))) (Err (Misplaced p.place)))
+    at_data : (c : Class) (a : ℕ) (f : Bool) (h : Bool) → slice_get ws i ≡ Some (Data (Some c) a) → p.headed ≡ h → Steps i (cond h (cond (below c p.class) (Err (Falling p.place)) (Ok (passed (Some c) p))) (Err (Misplaced p.place)))
     at_data c a f true e y =
         let own : Ends ws i p.instant c = (a, u.head y, e) in
         let placed = placed_by i (Data (Some c) a) e (p.instant, u.head y, refl) in
-        cond_both (ltb (rank c) p.rank) (Err (Falling p.place)) (Ok (passed (rank c) p)) (Steps i)
-        (λ l. (i, u.place, (u.stands, placed, class_falls ws i p u c own (ltb-true (rank c) p.rank l))))
+        cond_both (below c p.class) (Err (Falling p.place)) (Ok (passed (Some c) p)) (Steps i)
+        (λ l. (i, u.place, (u.stands, placed, class_falls ws i p u c own l)))
         (λ l.
-        pass ws i p u (rank c) (untimed i (Data (Some c) a) e refl) placed (ltb-false (rank c) p.rank l)
-        (λ t d x. let here = u.head y in let head = x.1 in let data_word = x.2 in let same : d ≡ c = cc in (cc, ap rank same))
-        (inr (c, own, refl)))
+        pass ws i p u (Some c) (untimed i (Data (Some c) a) e refl) placed (over c p.class l)
+        (λ t d x. let here = u.head y in let head = x.1 in let data_word = x.2 in (cc, cc))
+        (i, omega arith, own))
     at_data c a f false e y = (i, u.place, (u.stands, λ placed. let fits = placed (Data (Some c) a) e in u.no_head y fits.0 fits.1))
 
     step : (w : Word) (f : Bool) → slice_get ws i ≡ Some w → Followed (suc i) f → Steps i (judged w f p)
-    step (Floor t) f e d = at_timed t false (inl e) (placed_by i (Floor t) e tt) (λ z. absurd (false≢true z)) (λ _ s x. clash (cc))
+    step (Floor t) f e d = at_timed t false (inl e) (placed_by i (Floor t) e tt) (λ z. cc) (λ _ s x. cc)
     step (Head t) f e d = at_head t f e d
     step (Silence n) f e d = at_silence n f e
-    step (Data None a) f e d = (i, u.place, (u.stands, λ placed. let fits = placed (Data None a) e in false≢true fits.2))
+    step (Data None a) f e d = (i, u.place, (u.stands, λ placed. let fits = placed (Data None a) e in cc))
     step (Data (Some c) a) f e d = at_data c a f p.headed e refl
 
   -- the words after the place i stand in ws from there on
@@ -136,7 +143,7 @@ module _ (ws : List Word) where
         | inr l ↦
             let e : i + (j - i) ≡ j = omega arith in
             let past : slice_get ws j ≡ None = subst (λ n. slice_get ws n ≡ None) e (r (j - i)) in
-            let empty : (w : Word) → slice_get ws j ≡ Some w → ⊥ = λ w x. clash (cc) in (
+            let empty : (w : Word) → slice_get ws j ≡ Some w → ⊥ = λ w x. cc in (
               λ w x. absurd (empty w x),
               record { instant = λ k t v b x y. elim y [ inl z ↦ absurd (empty (Floor v) z) | inr z ↦ absurd (empty (Head v) z) ]; class = λ k t c d b x y. absurd (empty (Data (Some d) y.0) y.2) },
             )
@@ -162,9 +169,9 @@ begun ws =
       highest = λ j h. absurd (below_none j h);
       met = inl refl;
       class_highest = λ j h. absurd (below_none j h);
-      class_met = inl refl;
-      head = λ z. absurd (false≢true z);
-      no_head = λ _ t x. clash (cc);
+      class_met = tt;
+      head = λ z. cc;
+      no_head = λ _ t x. cc;
     }
 
 pub says : (ws : List Word) → Says ws (body_verdict start ws)

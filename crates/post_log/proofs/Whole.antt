@@ -1,21 +1,18 @@
 -- SPDX-License-Identifier: MIT OR Apache-2.0
 -- The verdict on a list of words is the one that the rules give.
-use Rattle.std.proofs.Common.{◌≡◌, ℕ, suc, ◌+◌, ◌/◌, false, cond, eqb, ltb, List, [], ◌∷◌, map, length, is_some, IfOk, Some, None, Ok, Err, Option, Result, sym, refl, ap, subst, inl, inr, arith, MatchOption}
-use Rattle.std.proofs.lemmas.Bool.{cases_order, cond_both, ltb-true, ltb-false, eqb-true, eqb-false, false≢true}
+use Rattle.std.proofs.Common.{◌≡◌, ℕ, suc, ◌+◌, ◌≤◌, List, [], ◌∷◌, map, length, Some, None, Option, sym, refl, ap, subst, inl, inr, arith, MatchOption}
+use Rattle.std.proofs.lemmas.Bool.{cases_order}
 use Rattle.std.proofs.lemmas.Bool.Decides.{nat_tests}
-use Rattle.std.specs.Result.{result_err}
 use Rattle.post_log.specs.declared.refusal.Refusal.{Refusal}
 use Rattle.post_log.specs.declared.refusal.Refusal.TheVariants.{TooShort, BadHeader, BadCount, Misplaced, Falling}
 use Rattle.post_log.specs.declared.word.Word.{Word}
 use Rattle.post_log.specs.Refusals.{number, place}
-use Rattle.post_log.specs.Rules.{Lawful, Refused, no_word, one_word, bad_header, bad_count, misplaced, falling, Decided, Headed, Stands, StandsTo, InPlace}
+use Rattle.post_log.specs.Rules.{Lawful, Refused, no_word, one_word, bad_header, bad_count, misplaced, falling, Decided, Headed, HeaderWord, Stands, StandsTo, InPlace}
 use Rattle.post_log.specs.Words.{word_of, body, Narrow}
-use Rattle.post_log.specs.Verdict.{verdict, body_verdict, start, Passes}
+use Rattle.post_log.specs.Verdict.{verdict, header_verdict, body_verdict, start, Passes}
 use Rattle.post_log.specs.Entries.{Told}
-use Rattle.post_log.proofs.Header.{going_on}
 use Rattle.post_log.proofs.Telling.{told}
 use Rattle.post_log.proofs.Walk.{Says, says}
-use Rattle.post_log.proofs.Clash.{clash}
 
 abbrev Ruled : List ℕ → Option Refusal → Type 0
 Ruled ws v = MatchOption v (Lawful ws) (λ e. Refused ws (number e) (place e))
@@ -29,24 +26,26 @@ module _ (h n : ℕ) (body : List ℕ) (headed : Headed h n body) where
   by_body (Some (Misplaced q)) s = subst (Refused (h ∷ n ∷ body) 4) (sym s.1) (misplaced {i = s.0} headed s.2)
   by_body (Some (Falling q)) s = subst (Refused (h ∷ n ∷ body) 5) (sym s.1) (falling {i = s.0} headed s.2)
 
-by_header : (h n : ℕ) (body : List ℕ) → Ruled (h ∷ n ∷ body) (verdict (h ∷ n ∷ body))
-by_header h n body =
-    let P : Option Refusal → Type 0 = λ v. Ruled (h ∷ n ∷ body) (going_on body v) in
-    cond_both (eqb (h / 0x400) 0x30_0000) (cond (ltb 16382 n) (Some BadCount) (cond (eqb n (length body)) None (Some BadCount))) (Some BadHeader) P
-    (λ y.
-    let head = eqb-true (h / 0x400) 0x30_0000 y in
-    cond_both (ltb 16382 n) (Some BadCount) (cond (eqb n (length body)) None (Some BadCount)) P
-    (λ many. bad_count head (λ c. let few = c.few in omega (arith, ltb-true 16382 n many)))
-    (λ few.
-    cond_both (eqb n (length body)) None (Some BadCount) P
-    (λ same. by_body h n body (head, record { count = eqb-true n (length body) same; few = ltb-false 16382 n few }) (body_verdict start (map word_of body)) (says (map word_of body)))
-    (λ other. bad_count head (λ c. eqb-false n (length body) other c.count))))
-    (λ z. bad_header (eqb-false (h / 0x400) 0x30_0000 z))
+-- the verdict on a header, and else on the words after it
+abbrev going_on : List ℕ → Option Refusal → Option Refusal
+going_on ws v = elim v [ None ↦ body_verdict start (map word_of ws) | Some e ↦ Some e ]
+
+by_header : (h n : ℕ) (ws : List ℕ) (v : Option Refusal) → v ≡ header_verdict h n (length ws) → Ruled (h ∷ n ∷ ws) (going_on ws v)
+by_header h n ws None e =
+    let headed : HeaderWord h × (n ≡ length ws) × (n ≤ 16382) = grind (arith, nat_tests) in
+    by_body h n ws (headed.0, record { count = headed.1; few = headed.2 }) (body_verdict start (map word_of ws)) (says (map word_of ws))
+by_header h n ws (Some BadHeader) e = bad_header (λ x. grind (arith, nat_tests))
+by_header h n ws (Some BadCount) e =
+    let head : HeaderWord h = grind (arith, nat_tests) in
+    bad_count head (λ x. let count = x.count in let few = x.few in grind (arith, nat_tests))
+by_header h n ws (Some TooShort) e = grind (arith, nat_tests)
+by_header h n ws (Some (Misplaced q)) e = grind (arith, nat_tests)
+by_header h n ws (Some (Falling q)) e = grind (arith, nat_tests)
 
 ruled : (ws : List ℕ) → Ruled ws (verdict ws)
 ruled [] = no_word
 ruled (h ∷ []) = one_word
-ruled (h ∷ n ∷ body) = by_header h n body
+ruled (h ∷ n ∷ body) = by_header h n body (header_verdict h n (length body)) refl
 
 -- two leftmost places that break a rule are one
 one_place : (ws : List Word) (i j : ℕ) → StandsTo ws i → StandsTo ws j → (Stands ws i → ⊥) → (Stands ws j → ⊥) → i ≡ j
@@ -87,16 +86,6 @@ unrefused l (bad_count h a) = a l.0.1
 unrefused l (misplaced {i = i} h a) = a.1 (l.1 i).0
 unrefused l (falling {i = i} h a) = a.2 (l.1 i).1
 
--- where the words pass, those of the body do
-body_passes : (h n : ℕ) (ws : List ℕ) → verdict (h ∷ n ∷ ws) ≡ None → body_verdict start (map word_of ws) ≡ None
-body_passes h n ws e = grind (arith, nat_tests)
-
--- words that pass tell what they spell
-told_from_none : (ws : List ℕ) → Narrow ws → verdict ws ≡ None → Told (body ws)
-told_from_none [] h e = clash (cc)
-told_from_none (w ∷ []) h e = clash (cc)
-told_from_none (w ∷ n ∷ ws) h e = told ws (λ i. h (suc (suc i))) (body_passes w n ws e)
-
 decided_from : (ws : List ℕ) (v : Option Refusal) → Ruled ws v → Decided ws v
 decided_from ws None l = record { ruled = l; accepted = λ _. refl; refused = λ n p r. unrefused l r }
 decided_from ws (Some e) r = record { ruled = r; accepted = λ l. absurd (unrefused l r); refused = λ n p q. one_refusal r q }
@@ -104,20 +93,18 @@ decided_from ws (Some e) r = record { ruled = r; accepted = λ l. absurd (unrefu
 pub decided_as : (ws : List ℕ) (v : Option Refusal) → v ≡ verdict ws → Decided ws v
 decided_as ws v e = subst (Decided ws) (sym e) (decided_from ws (verdict ws) (ruled ws))
 
--- what is accepted says what its words spell
-pub told_as : (ws : List ℕ) (r : Result (Unit {0}) Refusal) → Narrow ws → result_err r ≡ verdict ws → IfOk r (λ _. Told (body ws))
-told_as ws (Ok x) h e = told_from_none ws h (sym e)
-told_as ws (Err x) h e = tt
-
-none_from_passes : (ws : List ℕ) → Passes ws → verdict ws ≡ None
-none_from_passes ws h = absent (verdict ws) h
-  where
-    absent : (v : Option Refusal) → is_some v ≡ false → v ≡ None
-    absent None e = refl
-    absent (Some x) e = absurd (false≢true (sym e))
+pub none_from_passes : (ws : List ℕ) → Passes ws → None ≡ verdict ws
+none_from_passes ws h = grind arith
 
 pub lawful_from_passes : (ws : List ℕ) → Passes ws → Lawful ws
-lawful_from_passes ws h = subst (Ruled ws) (none_from_passes ws h) (ruled ws)
+lawful_from_passes ws h = subst (Ruled ws) (sym (none_from_passes ws h)) (ruled ws)
 
+-- where the words pass, those of the body do
+body_passes : (h n : ℕ) (ws : List ℕ) → Passes (h ∷ n ∷ ws) → body_verdict start (map word_of ws) ≡ None
+body_passes h n ws p = grind (arith, nat_tests)
+
+-- words that pass tell what they spell
 pub told_from_passes : (ws : List ℕ) → Narrow ws → Passes ws → Told (body ws)
-told_from_passes ws h p = told_from_none ws h (none_from_passes ws p)
+told_from_passes [] h p = cc
+told_from_passes (w ∷ []) h p = cc
+told_from_passes (w ∷ n ∷ ws) h p = told ws (λ i. h (suc (suc i))) (body_passes w n ws p)

@@ -67,11 +67,6 @@ Begins n ws (Some e) = Leads n ws e
 abbrev pub FirstBegins : Type 0
 FirstBegins = (n : ℕ) (ws : List ℕ) (r : Option Entry) → r ≡ slice_get (entries n (map word_of ws)) 0 → Begins n ws r
 
--- The words ws begin with the entry e, and others follow it.
-pub record Splits (n : ℕ) (ws : List ℕ) (e : Entry) (others : List ℕ) : Type 0 where
-  pub first : entries n (map word_of ws) ≡ e ∷ entries (n + records (e ∷ [])) (map word_of others)
-  pub fewer : records (e ∷ []) + length others ≤ length ws
-
 -- An entry may stand before another: no instant falls, and at one instant no class.
 abbrev pub NotAbove : Entry → Entry → Type 0
 NotAbove (FloorAt t) (FloorAt u) = t ≤ u

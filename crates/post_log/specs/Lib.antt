@@ -6,3 +6,4 @@ pub mod Verdict
 pub mod Rules
 pub mod Entries
 pub mod Steps
+pub mod Checks

@@ -1,6 +1,7 @@
 -- SPDX-License-Identifier: MIT OR Apache-2.0
 -- How a list of words is judged, from the left. Assumes nothing.
 use Rattle.std.specs.Prelude.{◌≡◌, ℕ, ◌+◌, ◌/◌, Bool, true, false, cond, List, [], ◌∷◌, map, length, is_some, Some, None, Ok, Err, Option, Result, ◌==◌, nat_lt}
+use Rattle.post_log.specs.declared.class.Class.{Class}
 use Rattle.post_log.specs.declared.judge.Progress.{Progress}
 use Rattle.post_log.specs.declared.refusal.Refusal.{Refusal}
 use Rattle.post_log.specs.declared.refusal.Refusal.TheVariants.{TooShort, BadHeader, BadCount, Misplaced, Falling}
@@ -11,29 +12,34 @@ use Rattle.post_log.specs.Words.{word_of, is_data}
 
 -- before the first word of a body
 abbrev pub start : Progress
-start = record { place = 2; instant = 0; rank = 0; headed = false }
+start = record { place = 2; instant = 0; class = None; headed = false }
 
--- one word further, at an instant; a new instant begins at rank 0
+-- one word further, at an instant; a new instant has no record yet
 abbrev pub reached : ℕ → Bool → Progress → Progress
-reached t h p = record { place = p.place + 1; instant = t; rank = cond (t == p.instant) p.rank 0; headed = h }
+reached t h p = record { place = p.place + 1; instant = t; class = cond (t == p.instant) p.class None; headed = h }
 
 -- one word further, at the same instant
-abbrev pub passed : ℕ → Progress → Progress
-passed k p = record { place = p.place + 1; instant = p.instant; rank = k; headed = false }
+abbrev pub passed : Option Class → Progress → Progress
+passed c p = record { place = p.place + 1; instant = p.instant; class = c; headed = false }
 
 -- a floor or a head: refused where its instant falls
 abbrev pub timed : ℕ → Bool → Progress → Result Progress Refusal
 timed t h p = cond (nat_lt t p.instant) (Err (Falling p.place)) (Ok (reached t h p))
 
+-- a class is below the one of the latest record, if there is one
+abbrev pub below : Class → Option Class → Bool
+below c None = false
+below c (Some d) = nat_lt (rank c) (rank d)
+
 -- A word, where `followed` says whether a data word follows it: refused, or passed.
 abbrev pub judged : Word → Bool → Progress → Result Progress Refusal
 judged (Floor t) followed p = timed t false p
 judged (Head t) followed p = cond followed (timed t true p) (Err (Misplaced p.place))
-judged (Silence n) followed p = cond (n == 0) (Err (Misplaced p.place)) (Ok (passed p.rank p))
+judged (Silence n) followed p = cond (n == 0) (Err (Misplaced p.place)) (Ok (passed p.class p))
 judged (Data None a) followed p = Err (Misplaced p.place)
 judged (Data (Some c) a) followed p =
     cond p.headed
-    (cond (nat_lt (rank c) p.rank) (Err (Falling p.place)) (Ok (passed (rank c) p)))
+    (cond (below c p.class) (Err (Falling p.place)) (Ok (passed (Some c) p)))
     (Err (Misplaced p.place))
 
 -- whether the words begin with data

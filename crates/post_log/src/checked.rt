@@ -1,16 +1,19 @@
 // SPDX-License-Identifier: MIT OR Apache-2.0
-// A list of words that is known to be a log.
-ghost use Rattle.std.specs.Prelude.{◌≡◌, [], ◌∷◌};
+// A list of words that is known to be a log, and the check that it is one.
+ghost use Rattle.std.specs.Prelude.{◌≡◌, [], ◌∷◌, MatchResult, OnOk};
+ghost use Rattle.std.specs.Result.{result_err};
 ghost use Rattle.post_log.specs.Entries.{entries_of, Told};
-ghost use Rattle.post_log.specs.Rules.{Lawful};
+ghost use Rattle.post_log.specs.Rules.{Decided, Lawful};
 ghost use Rattle.post_log.specs.Steps.{shown};
-ghost use Rattle.post_log.specs.Verdict.{Passes};
+ghost use Rattle.post_log.specs.Verdict.{verdict, Passes};
 ghost use Rattle.post_log.specs.Words.{body, post, Narrow};
 
 use crate::entries::Entries;
+use crate::judge::judge_log;
+use crate::refusal::Refusal;
 
 // Not `Copy`: whoever a log is handed on to has it alone.
-#[derive(Drop)]
+#[derive(Debug, Drop)]
 pub struct CheckedLog<'a> {
     words: &'a [u32],
     ghost lawful: { Passes words.now },
@@ -25,13 +28,6 @@ impl<'a> CheckedLog<'a> {
         CheckedLog {
             words: &[0xC000_0000, 0],
         }
-    }
-
-    pub(crate) fn of(words: &'a [u32]) -> Self
-        requires { (Passes words.now) × (Narrow words.now) }
-        ensures { result.words ≡ words.entry }
-    {
-        CheckedLog { words }
     }
 
     // Does nothing: its contract is what every checked log is.
@@ -51,14 +47,20 @@ impl<'a> CheckedLog<'a> {
     pub fn entries(&self) -> Entries<'a>
         ensures { shown result ≡ entries_of (body self.now.words.now) }
     {
-        let (_, body) = self.words.split_at(2);
         Entries {
-            unread: body,
+            unread: &self.words[2..],
             number: 0,
         }
     }
 
     // The caller's words.
+    pub fn words(&self) -> &'a [u32]
+        ensures { result ≡ self.now.words }
+    {
+        self.words
+    }
+
+    // The caller's words, for the log.
     pub fn into_words(self) -> &'a [u32]
         ensures held { result ≡ self.entry.words }
         ensures passes { Passes result.now }
@@ -66,6 +68,34 @@ impl<'a> CheckedLog<'a> {
         ensures told { Told (body result.now) }
     {
         self.meaning();
-        self.words
+        self.words()
     }
+}
+
+impl<'a> TryFrom<&'a [u32]> for CheckedLog<'a> {
+    ghost use Rattle.post_log.specs.Checks.{Checks};
+
+    type Error = Refusal;
+
+    ghost try_from_gives = { Checks };
+
+    #[tactic(auto, using(crate::proofs::Checking::refusing))]
+    fn try_from(words: &'a [u32]) -> Result<Self, Refusal> {
+        judge_log(words)?;
+        Ok(CheckedLog { words })
+    }
+}
+
+// Fills `into` with the words if they are a log, and else leaves it as it was.
+pub fn check<'a>(words: &'a [u32], into: &mut CheckedLog<'a>) -> Result<(), Refusal>
+    // the refusal that the judgement from the left comes to, if any
+    ensures value { result_err result ≡ verdict words.now }
+    // and the one that the rules give
+    ensures decided { Decided words.now (result_err result) }
+    // what is accepted has entries that never fall, spelled by its words
+    ensures told { OnOk result (Told (body words.now)) }
+    ensures filled { MatchResult result (λ _. into.new.words ≡ words.entry) (λ _. into.new ≡ into.old) }
+{
+    *into = CheckedLog::try_from(words)?;
+    Ok(())
 }

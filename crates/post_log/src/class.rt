@@ -1,9 +1,15 @@
 // SPDX-License-Identifier: MIT OR Apache-2.0
 // What a record tells of.
-ghost use Rattle.std.specs.Prelude.{◌≡◌};
-ghost use Rattle.post_log.specs.Classes.{class, code, rank};
+ghost use Rattle.std.specs.Prelude.{◌≡◌, Some};
+ghost use Rattle.std.specs.Ordering.{nat_cmp};
+ghost use Rattle.post_log.specs.declared.class.Class.{Class as ClassValue};
+ghost use Rattle.post_log.specs.Classes.{code, rank, Decodes, unknown};
 
-#[derive(Clone, Copy)]
+use std::error::Error;
+use std::fmt;
+
+// In the order in which the records of one instant stand.
+#[derive(Clone, Copy, Debug, PartialEq, Eq, PartialOrd, Ord)]
 pub enum Class {
     Tariff,
     Reading,
@@ -14,33 +20,50 @@ impl Class {
     // The class that comes first among the records of one instant.
     pub const FIRST: Class = Class::Tariff;
 
-    // The class that has the code n; from 3 on none has.
-    pub fn from_code(n: u32) -> Option<Class>
-        ensures { result ≡ class n }
-    {
-        match n {
-            0 => Some(Class::Tariff),
-            1 => Some(Class::Reading),
-            2 => Some(Class::PlugEvent),
-            _ => None,
+    // Does nothing: its contract is how classes compare.
+    pub fn meaning()
+        ensures { (c d : ClassValue) → ⟦<Class as Ord>⟧.cmp c d ≡ nat_cmp (rank c) (rank d) }
+    {}
+}
+
+// A code that no class has.
+#[derive(Clone, Copy, Debug, PartialEq, Eq)]
+pub struct UnknownClass(pub u32);
+
+impl TryFrom<u32> for Class {
+    type Error = UnknownClass;
+
+    ghost try_from_gives = { Decodes };
+
+    fn try_from(code: u32) -> Result<Self, UnknownClass> {
+        match code {
+            0 => Ok(Class::Tariff),
+            1 => Ok(Class::Reading),
+            2 => Ok(Class::PlugEvent),
+            _ => Err(UnknownClass(code)),
         }
     }
+}
 
-    // The number that words and listings have for the class.
-    pub fn code(self) -> u32
-        ensures { result ≡ code self }
-    {
-        match self {
+// The number that words and listings have for a class.
+impl From<Class> for u32 {
+    ghost from_gives = { λ c n. n ≡ code c };
+
+    fn from(class: Class) -> u32 {
+        match class {
             Class::Tariff => 0,
             Class::Reading => 1,
             Class::PlugEvent => 2,
         }
     }
+}
 
-    // Where the class stands among the records of one instant, the lowest first.
-    pub fn rank(self) -> u32
-        ensures { result ≡ rank self }
-    {
-        self.code()
+impl fmt::Display for UnknownClass {
+    ghost output = { λ e. Some (unknown e) };
+
+    fn fmt<W: fmt::Write>(&self, f: &mut fmt::Formatter<W>) -> fmt::Result {
+        write!(f, "no class has code {}", self.0)
     }
 }
+
+impl Error for UnknownClass {}

@@ -1,15 +1,14 @@
 // SPDX-License-Identifier: MIT OR Apache-2.0
 // What the words of a log say: floors, silences and records.
-ghost use Rattle.std.specs.Prelude.{◌≡◌, [], ◌∷◌, map, length, MatchOption};
+ghost use Rattle.std.specs.Prelude.{◌≡◌, [], ◌∷◌, map, length};
 ghost use Rattle.std.specs.List.{slice_get};
-ghost use Rattle.std.specs.Option.{option_to_list};
-ghost use Rattle.post_log.specs.Entries.{entries, spelled, records, Splits, FirstBegins, EachSized};
+ghost use Rattle.post_log.specs.Entries.{entries, spelled, records, FirstBegins, EachSized};
 ghost use Rattle.post_log.specs.Words.{word_of};
 
 use crate::class::Class;
 use crate::word::Word;
 
-#[derive(Clone, Copy)]
+#[derive(Clone, Copy, Debug, PartialEq, Eq)]
 pub enum Entry {
     // no floor or record after it has a lower instant
     Floor {
@@ -30,38 +29,18 @@ pub enum Entry {
 
 impl Entry {
     // Does nothing: its contract is what words begin with, and what each entry of a log is.
+    #[tactic(auto, using(crate::proofs::Entering::each_sized, crate::proofs::Reading::first_begins))]
     pub fn meaning()
         ensures begins { FirstBegins }
         ensures sized { EachSized }
     {}
 
-    // The first entry of words, and the words after it; a record gets the number.
-    pub(crate) fn split_first(words: &[u32], number: u32) -> Option<(Entry, &[u32])>
-        ensures { MatchOption result (entries number (map word_of words.now) ≡ []) (λ x. Splits number words.now x.0 x.1.now) }
-    {
-        let entry = Entry::first(words, number)?;
-        Some((entry, &words[entry.width()..]))
-    }
-
     // The entry that the words begin with, if they begin with one; a record gets the number.
-    #[tactic(auto, using(crate::proofs::Reading::first_words))]
     pub fn first(words: &[u32], number: u32) -> Option<Entry>
         ensures { result ≡ slice_get (entries number (map word_of words.now)) 0 }
     {
-        match words {
-            [] => None,
-            [bits] => Entry::begun(Word::from_bits(*bits), None, number),
-            [bits, next, ..] => {
-                Entry::begun(Word::from_bits(*bits), Some(Word::from_bits(*next)), number)
-            }
-        }
-    }
-
-    // The entry that a word begins, by the word after it.
-    fn begun(word: Word, next: Option<Word>, number: u32) -> Option<Entry>
-        ensures { result ≡ slice_get (entries number (word ∷ option_to_list next)) 0 }
-    {
-        match (word, next) {
+        let mut words = words.iter().map(|&bits| Word::from(bits));
+        match (words.next()?, words.next()) {
             (Word::Floor { instant }, _) => Some(Entry::Floor { instant }),
             (Word::Silence { polls }, _) => Some(Entry::Silence { polls }),
             (

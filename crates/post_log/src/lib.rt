@@ -10,10 +10,9 @@ mod judge;
 mod refusal;
 mod word;
 
-pub use checked::CheckedLog;
-pub use class::Class;
+pub use checked::{CheckedLog, check};
+pub use class::{Class, UnknownClass};
 pub use entries::Entries;
 pub use entry::Entry;
-pub use judge::check;
 pub use refusal::Refusal;
 pub use word::Word;

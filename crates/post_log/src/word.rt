@@ -5,7 +5,7 @@ ghost use Rattle.post_log.specs.Words.{word_of, is_data};
 
 use crate::class::Class;
 
-#[derive(Clone, Copy)]
+#[derive(Clone, Copy, Debug, PartialEq, Eq)]
 pub enum Word {
     // a floor: no floor or record after it has a lower instant
     Floor { instant: u32 },
@@ -17,22 +17,24 @@ pub enum Word {
     Data { class: Option<Class>, amount: u32 },
 }
 
-impl Word {
-    pub fn from_bits(bits: u32) -> Word
-        ensures { result ≡ word_of bits }
-    {
+impl From<u32> for Word {
+    ghost from_gives = { λ bits word. word ≡ word_of bits };
+
+    fn from(bits: u32) -> Word {
         let low = bits % 0x4000_0000;
         match bits >> 30 {
             0 => Word::Floor { instant: low },
             1 => Word::Head { instant: low },
             2 => Word::Silence { polls: low },
             _ => Word::Data {
-                class: Class::from_code(low >> 28),
+                class: Class::try_from(low >> 28).ok(),
                 amount: low % 0x1000_0000,
             },
         }
     }
+}
 
+impl Word {
     pub(crate) fn is_data(self) -> bool
         ensures { result ≡ is_data self }
     {
