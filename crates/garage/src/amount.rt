@@ -4,15 +4,17 @@ ghost use Rattle.garage.specs.Limits.{Makes, AmountWithin};
 
 use crate::limit::{AMOUNTS, PastLimit};
 
-#[derive(Clone, Copy)]
+#[derive(Clone, Copy, Debug, PartialEq, Eq)]
 pub struct Amount {
     pub units: u32,
 }
 
-impl Amount {
-    pub fn new(units: u32) -> Result<Amount, PastLimit>
-        ensures { Makes AmountWithin (record { units = units }) result }
-    {
+impl TryFrom<u32> for Amount {
+    type Error = PastLimit;
+
+    ghost try_from_gives = { λ units made. Makes AmountWithin (record { units = units }) made };
+
+    fn try_from(units: u32) -> Result<Amount, PastLimit> {
         if units >= AMOUNTS {
             return Err(PastLimit);
         }

@@ -7,7 +7,6 @@ mod instant;
 mod limit;
 mod line;
 mod minute;
-mod number;
 mod slot;
 
 pub use amount::Amount;

@@ -1,7 +1,10 @@
 // SPDX-License-Identifier: MIT OR Apache-2.0
 // The limits of what a record is made of, and the refusal of a value that is past one.
-ghost use Rattle.std.specs.Prelude.{◌≡◌};
-ghost use Rattle.garage.specs.Refusals.{number, value};
+ghost use Rattle.std.specs.Prelude.{◌≡◌, Some};
+ghost use Rattle.garage.specs.Refusals.{number, value, message};
+
+use std::error::Error;
+use std::fmt;
 
 // A slot's instant is below this.
 pub const INSTANTS: u32 = 0x4000_0000;
@@ -16,7 +19,7 @@ pub const NUMBERS: u32 = 0x10_0000;
 pub const AMOUNTS: u32 = 0x1000_0000;
 
 // Nothing is made.
-#[derive(Clone, Copy)]
+#[derive(Clone, Copy, Debug, PartialEq, Eq)]
 pub struct PastLimit;
 
 impl PastLimit {
@@ -33,3 +36,13 @@ impl PastLimit {
         0
     }
 }
+
+impl fmt::Display for PastLimit {
+    ghost output = { λ e. Some (message e) };
+
+    fn fmt<W: fmt::Write>(&self, f: &mut fmt::Formatter<W>) -> fmt::Result {
+        write!(f, "refused {} at {}", self.number(), self.value())
+    }
+}
+
+impl Error for PastLimit {}

@@ -6,7 +6,7 @@ use crate::amount::Amount;
 use crate::limit::{POSTS, PastLimit};
 use post_log::Class;
 
-#[derive(Clone, Copy)]
+#[derive(Clone, Copy, Debug, PartialEq, Eq)]
 pub struct Line {
     pub class: Class,
     pub post: u32,
@@ -17,7 +17,7 @@ impl Line {
     pub fn new(class: Class, post: u32, units: u32) -> Result<Line, PastLimit>
         ensures { Makes LineWithin (record { class = class; post = post; amount = record { units = units } }) result }
     {
-        let amount = Amount::new(units)?;
+        let amount = Amount::try_from(units)?;
         if post >= POSTS {
             return Err(PastLimit);
         }

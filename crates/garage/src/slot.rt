@@ -1,18 +1,17 @@
 // SPDX-License-Identifier: MIT OR Apache-2.0
 // Where a record stands in a feed: by its instant, then its class, post and number.
 ghost use Rattle.std.specs.Prelude.{◌≡◌, false};
-ghost use Rattle.std.specs.Ordering.{is_gt};
+ghost use Rattle.std.specs.Ordering.{is_gt, nat_cmp, on};
+ghost use Rattle.post_log.specs.Classes.{rank};
 ghost use Rattle.garage.specs.declared.slot.Slot.{Slot as SlotValue};
-ghost use Rattle.garage.specs.Kinds.{slot_order, slot_laws, least};
+ghost use Rattle.garage.specs.Kinds.{slot_order, slots_by, least};
 ghost use Rattle.garage.specs.Limits.{Makes, SlotWithin};
 
 use crate::limit::{INSTANTS, NUMBERS, POSTS, PastLimit};
-use crate::number::compare;
 use ordered_stream::TotalOrder;
 use post_log::Class;
-use std::cmp::Ordering;
 
-#[derive(Clone, Copy)]
+#[derive(Clone, Copy, Debug, PartialEq, Eq, PartialOrd, Ord)]
 pub struct Slot {
     pub instant: u32,
     pub class: Class,
@@ -43,17 +42,15 @@ impl Slot {
     {
         Slot::new(instant, Class::FIRST, 0, 0)
     }
+
+    // Does nothing: its contract is how slots compare.
+    pub fn meaning()
+        ensures { (x y : SlotValue) → ⟦<Slot as Ord>⟧.cmp x y ≡ slots_by (on rank nat_cmp) x y }
+    {}
 }
 
 impl TotalOrder for Slot {
-    ghost rank = { slot_order };
+    ghost use Rattle.garage.specs.Kinds.{slot_laws};
 
     ghost laws = { slot_laws };
-
-    fn compare(self, other: Slot) -> Ordering {
-        compare(self.instant, other.instant)
-            .then(compare(self.class.rank(), other.class.rank()))
-            .then(compare(self.post, other.post))
-            .then(compare(self.number, other.number))
-    }
 }

@@ -1,8 +1,6 @@
 -- SPDX-License-Identifier: MIT OR Apache-2.0
 pub mod Bags
-pub mod Keys
 pub mod Orders
 pub mod Polls
 pub mod Positions
 pub mod Turns
-mod Maybes

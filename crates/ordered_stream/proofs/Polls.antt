@@ -11,7 +11,7 @@ use Rattle.ordered_stream.proofs.Bags.{same_length, same_none}
 abbrev pub left : {S O D : Type 0} → Stream S O D → S → ℕ
 left K s = length (K.records s) + K.waits s
 
-module _ {S O D : Type 0} (rank : O → O → Ordering) (K : Stream S O D) (laws : IsStream rank K) (s t : S) where
+module _ {S O D : Type 0} (cmp : O → O → Ordering) (K : Stream S O D) (laws : IsStream cmp K) (s t : S) where
   pub item_less : (o : O) (d : D) → K.answers s None (Item o d) t → left K t < left K s
   item_less o d a = let h = laws.takes s None (Item o d) t a in omega (arith, same_length h.0, h.1)
 

@@ -8,8 +8,3 @@ pub data Same {A : Type 0} : List A → List A → Type 0 where
   both : {x : A} {xs ys : List A} → Same xs ys → Same (x ∷ xs) (x ∷ ys)
   swap : {x y : A} {xs : List A} → Same (x ∷ y ∷ xs) (y ∷ x ∷ xs)
   then : {xs ys zs : List A} → Same xs ys → Same ys zs → Same xs zs
-
--- P holds of each element
-abbrev pub Each : {A : Type 0} → (A → Type 0) → List A → Type 0
-Each P [] = Unit {0}
-Each P (x ∷ xs) = P x × Each P xs

@@ -1,7 +1,6 @@
 -- SPDX-License-Identifier: MIT OR Apache-2.0
 pub mod Orders
 pub mod Bags
-pub mod Keys
 pub mod Answers
 pub mod Meaning
 pub mod Streams

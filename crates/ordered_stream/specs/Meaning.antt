@@ -3,9 +3,10 @@
 use Rattle.std.specs.Prelude.{◌≡◌, ℕ, ◌<◌, ◌≤◌, List, [], ◌∷◌, Some, None, Option, ◌≢◌}
 use Rattle.std.specs.declared.cmp.Ordering.TheVariants.{Less}
 use Rattle.std.specs.declared.cmp.Ordering.{Ordering}
+use Rattle.std.specs.List.{AllByRecursion}
 use Rattle.ordered_stream.specs.declared.answer.Answer.{Answer}
 use Rattle.ordered_stream.specs.declared.answer.Answer.TheVariants.{Item, NoneBefore, Terminated, Pending}
-use Rattle.ordered_stream.specs.Bags.{Same, Each}
+use Rattle.ordered_stream.specs.Bags.{Same}
 
 -- What an answer leaves of the records to come, xs before it and ys after it: an item takes its record, any other nothing.
 abbrev pub Leaves : {O D : Type 0} → List (O × D) → Answer O D → List (O × D) → Type 0
@@ -38,10 +39,10 @@ InTurn xs Pending ys = xs ≡ ys
 abbrev pub HandsInTurn : {S O D : Type 0} → (S → List (O × D)) → (S → Option O → Answer O D → S → Type 0) → Type 0
 HandsInTurn {S} {O} {D} records answers = (s : S) (b : Option O) (r : Answer O D) (t : S) → answers s b r t → InTurn (records s) r (records t)
 
-module _ {O D : Type 0} (rank : O → O → Ordering) where
+module _ {O D : Type 0} (cmp : O → O → Ordering) where
   -- no record's ordering is below o
   abbrev pub NoneBelow : O → List (O × D) → Type 0
-  NoneBelow o = Each (λ x. rank x.0 o ≢ Less)
+  NoneBelow o = AllByRecursion (λ x. cmp x.0 o ≢ Less)
 
   -- a position, if there is one, is above no record's ordering
   abbrev pub Lower : Option O → List (O × D) → Type 0

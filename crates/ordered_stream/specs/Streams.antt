@@ -10,4 +10,4 @@ Stream S O D = Ghosts S O D
 
 -- they have the laws
 abbrev pub IsStream : {S O D : Type 0} → (O → O → Ordering) → Stream S O D → Type 0
-IsStream rank K = StreamLaws rank K.records K.waits K.sound K.answers K.hint
+IsStream cmp K = StreamLaws cmp K.records K.waits K.sound K.answers K.hint

@@ -5,7 +5,7 @@ ghost use Rattle.ordered_stream.specs.Answers.{into_data, into_tuple, map_data, 
 
 use crate::function::Function;
 
-#[derive(Clone, Copy)]
+#[derive(Clone, Copy, Debug, PartialEq, Eq)]
 pub enum Answer<O, D> {
     // a record
     Item { ordering: O, datum: D },
@@ -74,9 +74,6 @@ impl<O: Drop, D: Drop, E: Drop> Answer<O, Result<D, E>> {
     pub fn transpose_result(self) -> Result<Answer<O, D>, E>
         ensures { result ≡ transpose_result self }
     {
-        match self.transpose_result_item() {
-            Ok(answer) => Ok(answer),
-            Err((_, error)) => Err(error),
-        }
+        self.transpose_result_item().map_err(|(_, error)| error)
     }
 }

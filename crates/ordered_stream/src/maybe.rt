@@ -20,7 +20,9 @@ impl<S: OrderedStream> OrderedStream for Option<S> {
 
     ghost hint = { option_hint S.OrderedStream };
 
-    fn poll_next_before(&mut self, before: &Option<S::Ordering>) -> Answer<S::Ordering, S::Data> {
+    fn poll_next_before(&mut self, before: Option<S::Ordering>) -> Answer<S::Ordering, S::Data>
+        ensures { OptionAnswers S.OrderedStream self.old before result self.new }
+    {
         match self {
             Some(s) => s.poll_next_before(before),
             None => Answer::Terminated,
@@ -28,10 +30,7 @@ impl<S: OrderedStream> OrderedStream for Option<S> {
     }
 
     fn position_hint(&self) -> Option<S::Ordering> {
-        match self {
-            Some(s) => s.position_hint(),
-            None => None,
-        }
+        self.as_ref()?.position_hint()
     }
 
     fn meaning() {
@@ -43,9 +42,6 @@ impl<S: FusedOrderedStream> FusedOrderedStream for Option<S> {
     ghost terminated = { option_terminated S.FusedOrderedStream.terminated };
 
     fn is_terminated(&self) -> bool {
-        match self {
-            Some(s) => s.is_terminated(),
-            None => true,
-        }
+        self.as_ref().is_none_or(|s| s.is_terminated())
     }
 }

@@ -30,9 +30,9 @@ pub trait OrderedStream {
     // The next record, or what is known of those to come. A bound asks only for records below it, though one above may come.
     fn poll_next_before(
         &mut self,
-        before: &Option<Self::Ordering>,
+        before: Option<Self::Ordering>,
     ) -> Answer<Self::Ordering, Self::Data>
-        ensures { answers self.old before.now result self.new };
+        ensures { answers self.old before result self.new };
 
     // An ordering below which nothing is to come, if one is known.
     fn position_hint(&self) -> Option<Self::Ordering>
@@ -40,7 +40,7 @@ pub trait OrderedStream {
 
     // Does nothing: its contract is what every answer and every hint means.
     fn meaning()
-        ensures { StreamLaws Self.Ordering.TotalOrder.rank records waits sound answers hint };
+        ensures { StreamLaws Self.Ordering.cmp records waits sound answers hint };
 }
 
 // A stream that can say that nothing is to come.
