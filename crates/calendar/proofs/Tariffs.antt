@@ -5,7 +5,7 @@ use Rattle.std.proofs.lemmas.Nat.{mul-le}
 use Rattle.std.proofs.lemmas.Bool.{ltb-true, ltb-false, eqb-false, cond_both}
 use Rattle.ordered_stream.specs.declared.answer.Answer.{Answer}
 use Rattle.ordered_stream.specs.declared.answer.Answer.TheVariants.{Item, NoneBefore, Terminated}
-use Rattle.ordered_stream.specs.Bags.{Each}
+use Rattle.std.specs.List.{AllByRecursion}
 use Rattle.ordered_stream.specs.Meaning.{InTurn, HandsInTurn, Spends, Tells, NoneBelow, Lower}
 use Rattle.ordered_stream.specs.Orders.{reaches}
 use Rattle.ordered_stream.specs.Streams.{IsStream}
@@ -27,7 +27,7 @@ none_from : (p : Plan) (i j k : ℕ) → i < j → NoneBelow slot_order (slot_at
 none_from p i j zero h = tt
 none_from p i j (suc k) h =
     let more = mul-le i p.step j p.step (omega arith) (omega arith) in (
-      not_below slot_order slot_laws (slot_at p i) (slot_at p j) (slot_up_to (slot_at p i) (slot_at p j) (omega (arith, more)) (λ _. omega arith) (omega arith) (omega arith)),
+      not_below slot_order slot_laws.total (slot_at p i) (slot_at p j) (slot_up_to (slot_at p i) (slot_at p j) (omega (arith, more)) (λ _. omega arith) (omega arith) (omega arith)),
       none_from p i (j + 1) k (omega arith),
     )
 
@@ -61,7 +61,7 @@ step_follows c b =
     let i = c.done in
     let item : Answer Slot Amount × Calendar = (Item (slot_at p i) (amount_at p i), handed c) in
     cond_both (reaches slot_order (calendar_hint c) b) (NoneBefore, c) (cond (ltb i p.count) item (Terminated, c)) (Follows c b)
-    (λ e. record { turns = refl; spends = position_spends Amount slot_order (calendar_hint c) b e 0; tells = position_tells slot_order slot_laws (calendar_hint c) b e (calendar_records c) (hint_low c) })
+    (λ e. record { turns = refl; spends = position_spends Amount slot_order (calendar_hint c) b e 0; tells = position_tells slot_order slot_laws.total (calendar_hint c) b e (calendar_records c) (hint_low c) })
     (λ _.
     cond_both (ltb i p.count) item (Terminated, c) (Follows c b)
     (λ e. record { turns = next_first c (ltb-true i p.count e); spends = omega arith; tells = none_from p i (i + 1) (p.count - (i + 1)) (omega arith) })
@@ -87,7 +87,7 @@ module _ (p : Plan) (h : PlanWithin p) where
   not_late : (i : ℕ) → i < p.count → p.first + i * p.step < 0x4000_0000
   not_late i l = omega (arith, mul-le i p.step (p.count - 1) p.step (omega arith) (omega arith), h.last)
 
-  within_from : (i k : ℕ) → i + k ≤ p.count → Each RecordWithin (records_from p i k)
+  within_from : (i k : ℕ) → i + k ≤ p.count → AllByRecursion RecordWithin (records_from p i k)
   within_from i zero l = tt
   within_from i (suc k) l = (
     (

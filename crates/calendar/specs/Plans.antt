@@ -1,7 +1,7 @@
 -- SPDX-License-Identifier: MIT OR Apache-2.0
 -- What a plan of tariffs may be, and its records. Assumes nothing.
 use Rattle.std.specs.Prelude.{◌≡◌, ℕ, zero, suc, ◌+◌, ◌-◌, ◌*◌, ◌%◌, ◌<◌, ◌≤◌, min, cond, List, [], ◌∷◌, ◌==◌}
-use Rattle.ordered_stream.specs.Bags.{Each}
+use Rattle.std.specs.List.{AllByRecursion}
 use Rattle.garage.specs.declared.amount.Amount.{Amount}
 use Rattle.garage.specs.declared.slot.Slot.{Slot}
 use Rattle.garage.specs.Limits.{InstantWithin, PostWithin, AmountWithin, RecordWithin}
@@ -43,4 +43,4 @@ records_from p i (suc k) = (slot_at p i, amount_at p i) ∷ records_from p (i + 
 -- What a plan within its limits comes to: no instant is cut off at the top, and each record is within the limits.
 pub record AsPlanned (p : Plan) : Type 0 where
   pub instants : (i : ℕ) → i < p.count → instant_at p i ≡ p.first + i * p.step
-  pub within : Each RecordWithin (records_from p 0 p.count)
+  pub within : AllByRecursion RecordWithin (records_from p 0 p.count)

@@ -10,7 +10,7 @@ use garage::{Amount, PastLimit, Slot};
 use ordered_stream::{Answer, FusedOrderedStream, OrderedStream, reaches};
 
 // Not `Copy`: what it has handed out is not handed out again.
-#[derive(Drop)]
+#[derive(Debug, Drop)]
 pub struct Calendar {
     plan: Plan,
     // how many records are handed out
@@ -19,11 +19,11 @@ pub struct Calendar {
 
 impl Calendar {
     // The calendar of a plan, from its first record on.
+    #[tactic(auto, using(crate::proofs::Tariffs::as_planned))]
     pub fn new(plan: Plan) -> Result<Calendar, PastLimit>
         ensures { Opens plan result }
     {
         let plan = plan.checked()?;
-        plan.meaning();
         Ok(Calendar { plan, done: 0 })
     }
 }
@@ -43,8 +43,10 @@ impl OrderedStream for Calendar {
 
     ghost hint = { calendar_hint };
 
-    fn poll_next_before(&mut self, before: &Option<Slot>) -> Answer<Slot, Amount> {
-        if reaches(self.position_hint(), *before) {
+    fn poll_next_before(&mut self, before: Option<Slot>) -> Answer<Slot, Amount>
+        ensures { CalendarAnswers self.old before result self.new }
+    {
+        if reaches(self.position_hint(), before) {
             return Answer::NoneBefore;
         }
         if self.done >= self.plan.count {
@@ -58,13 +60,11 @@ impl OrderedStream for Calendar {
 
     // The last ordering handed out.
     fn position_hint(&self) -> Option<Slot> {
-        if self.done == 0 {
-            None
-        } else {
-            Some(self.plan.slot(self.done - 1))
-        }
+        let last = self.done.checked_sub(1)?;
+        Some(self.plan.slot(last))
     }
 
+    #[tactic(auto, using(crate::proofs::Tariffs::calendar_laws, crate::proofs::Tariffs::calendar_in_turn))]
     fn meaning()
         ensures laws { IsStream slot_order calendar_stream }
         // and the records come in turn

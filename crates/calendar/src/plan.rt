@@ -2,12 +2,12 @@
 // When tariffs change, and to what.
 ghost use Rattle.std.specs.Prelude.{◌≡◌};
 ghost use Rattle.garage.specs.Limits.{Makes};
-ghost use Rattle.calendar.specs.Plans.{PlanWithin, AsPlanned, instant_at, slot_at, amount_at};
+ghost use Rattle.calendar.specs.Plans.{PlanWithin, instant_at, slot_at, amount_at};
 
 use garage::{Amount, INSTANTS, POSTS, PastLimit, Slot};
 use post_log::Class;
 
-#[derive(Clone, Copy)]
+#[derive(Clone, Copy, Debug, PartialEq, Eq)]
 pub struct Plan {
     // the instant of the first change
     pub first: u32,
@@ -27,23 +27,17 @@ impl Plan {
     pub(crate) fn checked(self) -> Result<Plan, PastLimit>
         ensures { Makes PlanWithin self result }
     {
-        if self.step == 0 || self.step > 86_400 || self.count > 1000 || self.post >= POSTS {
+        if !(1..=86_400).contains(&self.step) || self.count > 1000 || self.post >= POSTS {
             return Err(PastLimit);
         }
-        Amount::new(self.even)?;
-        Amount::new(self.odd)?;
+        Amount::try_from(self.even)?;
+        Amount::try_from(self.odd)?;
         // and so the first, which is no later
         if self.instant(self.count.saturating_sub(1)) >= INSTANTS {
             return Err(PastLimit);
         }
         Ok(self)
     }
-
-    // Does nothing: its contract is what the records of a plan within its limits are.
-    pub(crate) fn meaning(&self)
-        requires { PlanWithin self.now }
-        ensures { AsPlanned self.now }
-    {}
 
     // The instant of record i; it stays at the top of 32 bits, which no plan within its limits comes to.
     fn instant(&self, i: u32) -> u32

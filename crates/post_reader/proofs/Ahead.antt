@@ -7,7 +7,7 @@ use Rattle.std.proofs.lemmas.Bool.{eqb-true}
 use Rattle.post_log.specs.declared.entry.Entry.{Entry}
 use Rattle.post_log.specs.declared.entry.Entry.TheVariants.{Floor, Silence, Record}
 use Rattle.post_log.specs.Entries.{entries, spelled, records, Sized, EachSized, Begins}
-use Rattle.post_log.specs.Words.{word_of}
+use Rattle.post_log.specs.Words.{word_of, post}
 use Rattle.post_reader.specs.declared.reader.Reader.{Reader}
 use Rattle.post_reader.specs.Reading.{records_of}
 use Rattle.post_reader.specs.Readers.{words_of, unread_of, all_read, reader_records, Next}
@@ -26,11 +26,11 @@ next_by sized r u (Some e) same h =
       first = s.first ∙ ap (λ l. e ∷ entries (r.number + records (e ∷ [])) (map word_of l)) (drop-drop (length (spelled e)) r.place (words_of r));
       within = omega (arith, s.within, length-drop r.place (words_of r), some_word e);
       no_more_records = s.no_more_records;
-      sized = (subst (AllByRecursion Sized) s.first (sized (words_of r) r.lawful r.number r.place)).0;
+      sized = (subst (AllByRecursion Sized) s.first (sized (words_of r) r.log.lawful r.number r.place)).0;
     }
 
 -- where no word is left, nothing is to come
 pub none_ahead : (r : Reader) → all_read r ≡ true → reader_records r ≡ []
 none_ahead r h =
     let none : unread_of r ≡ [] = nil_from_length (unread_of r) (eqb-true (length (unread_of r)) 0 h) in
-    ap (λ l. records_of r.post (entries r.number (map word_of l))) none
+    ap (λ l. records_of (post (words_of r)) (entries r.number (map word_of l))) none

@@ -17,7 +17,7 @@ use Rattle.post_reader.proofs.Sounding.{StaysSound, poll_tells}
 -- what is known of the entries of a log
 module _ (sized : EachSized) where
   moves : (s : Reader) (b : Option Slot) (r : Answer Slot Amount) (t : Reader) → ReaderAnswers s b r t → Moves (state_of s) b (r, state_of t)
-  moves s b r t a = subst (Moves (state_of s) b) (sym a.step) (poll_moves (state_of s) b (sized (words_of s) s.lawful s.number s.place))
+  moves s b r t a = subst (Moves (state_of s) b) (sym a.step) (poll_moves (state_of s) b (sized (words_of s) s.log.lawful s.number s.place))
 
   pub reader_laws : IsStream slot_order reader_stream
   reader_laws =

@@ -1,6 +1,6 @@
 -- SPDX-License-Identifier: MIT OR Apache-2.0
-mod Ahead
-mod Opening
+pub mod Ahead
+pub mod Opening
 mod Moving
 mod Sounding
-mod Laws
+pub mod Laws

@@ -3,7 +3,6 @@
 use Rattle.std.proofs.Common.{◌≡◌, ℕ, zero, suc, ◌+◌, ◌<◌, ◌≤◌, List, [], ◌∷◌, length, take, drop, Some, sym, refl, ap, ◌∙◌, arith}
 use Rattle.std.proofs.lemmas.List.{length-map}
 use Rattle.std.specs.List.{AllByRecursion, slice_get}
-use Rattle.ordered_stream.specs.Bags.{Each}
 use Rattle.ordered_stream.specs.Meaning.{NoneBelow}
 use Rattle.ordered_stream.proofs.Orders.{UpTo, not_below}
 use Rattle.post_log.specs.declared.class.Class.{Class}
@@ -12,7 +11,7 @@ use Rattle.post_log.specs.declared.entry.Entry.TheVariants.{Floor, Silence, Reco
 use Rattle.post_log.specs.Entries.{entries_of, records, spelling, Sized, EachSized, NotAbove, Told}
 use Rattle.post_log.specs.Rules.{Lawful}
 use Rattle.post_log.specs.Verdict.{Passes}
-use Rattle.post_log.specs.Words.{bits, body}
+use Rattle.post_log.specs.Words.{bits, post, body}
 use Rattle.garage.specs.declared.slot.Slot.{Slot}
 use Rattle.garage.specs.Kinds.{slot_order, slot_laws, least}
 use Rattle.garage.proofs.Slots.{slot_up_to}
@@ -30,7 +29,7 @@ module _ (p : ℕ) where
   none_below o [] h = tt
   none_below o (Floor t ∷ es) h = none_below o es (λ k. h (suc k))
   none_below o (Silence k ∷ es) h = none_below o es (λ k. h (suc k))
-  none_below o (Record t c n a ∷ es) h = (not_below slot_order slot_laws o (slot p t c n) (h 0 t n a c refl), none_below o es (λ k. h (suc k)))
+  none_below o (Record t c n a ∷ es) h = (not_below slot_order slot_laws.total o (slot p t c n) (h 0 t n a c refl), none_below o es (λ k. h (suc k)))
 
   ordered_rises : (n : ℕ) (es : List Entry) → Ordered n es → Rising p es
   ordered_rises n [] h = tt
@@ -48,11 +47,11 @@ module _ (p : ℕ) where
         ordered_rises (n + 1) es (record { rising = λ j k e f l. h.rising (suc j) (suc k) e f (omega arith); counted = λ k u i b d e. omega (arith, h.counted (suc k) u i b d e) }),
       )
 
-pub opened_sound : (p : ℕ) (ws : List ℕ) → Told (body ws) → Sound (opened p ws)
-opened_sound p ws told =
+pub opened_sound : (ws : List ℕ) → Told (body ws) → Sound (opened (post ws) ws)
+opened_sound ws told =
     record {
       above = tt;
-      rising = ordered_rises p 0 (entries_of (body ws)) (record { rising = told.rising; counted = λ k t m a c e. omega (arith, told.counted k t m a c e) });
+      rising = ordered_rises (post ws) 0 (entries_of (body ws)) (record { rising = told.rising; counted = λ k t m a c e. omega (arith, told.counted k t m a c e) });
     }
 
 -- of entries, the first k have no more records than all have words
@@ -70,15 +69,15 @@ few_in_body (h ∷ []) l = absurd l
 few_in_body (h ∷ n ∷ ws) l = omega (arith, l.0.1.count, l.0.1.few)
 
 -- each record is within the limits, place by place
-all_within : (p : ℕ) → PostWithin p → (es : List Entry) → AllByRecursion Sized es → ((k t n a : ℕ) (c : Class) → slice_get es k ≡ Some (Record t c n a) → NumberWithin n) → Each RecordWithin (records_of p es)
+all_within : (p : ℕ) → PostWithin p → (es : List Entry) → AllByRecursion Sized es → ((k t n a : ℕ) (c : Class) → slice_get es k ≡ Some (Record t c n a) → NumberWithin n) → AllByRecursion RecordWithin (records_of p es)
 all_within p known [] s h = tt
 all_within p known (Floor t ∷ es) s h = all_within p known es s.1 (λ k. h (suc k))
 all_within p known (Silence q ∷ es) s h = all_within p known es s.1 (λ k. h (suc k))
 all_within p known (Record t c n a ∷ es) s h =
     ((record { instant = s.0.0; post = known; number = h 0 t n a c refl }, s.0.1), all_within p known es s.1 (λ k. h (suc k)))
 
-pub opened_within : EachSized → (p : ℕ) (ws : List ℕ) → PostWithin p → Passes ws → Lawful ws → Told (body ws) → Each RecordWithin (records_of p (entries_of (body ws)))
-opened_within sized p ws known passes lawful told =
+pub opened_within : EachSized → (ws : List ℕ) → Passes ws → Lawful ws → Told (body ws) → AllByRecursion RecordWithin (records_of (post ws) (entries_of (body ws)))
+opened_within sized ws passes lawful told =
     let es = entries_of (body ws) in
     let words : length (spelling es) ≡ length (body ws) = sym (length-map (spelling es) bits) ∙ ap length told.whole in
-    all_within p known es (sized ws passes 0 2) (λ k t n a c e. omega (arith, told.counted k t n a c e, records_up_to k es, words, few_in_body ws lawful))
+    all_within (post ws) (omega arith) es (sized ws passes 0 2) (λ k t n a c e. omega (arith, told.counted k t n a c e, records_up_to k es, words, few_in_body ws lawful))

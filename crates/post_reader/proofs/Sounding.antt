@@ -2,7 +2,7 @@
 -- A poll of a sound state leaves a sound one, and tells what is to come.
 use Rattle.std.proofs.Common.{◌≡◌, eqb, List, [], ◌∷◌, Some, None, Option, refl, ap, subst}
 use Rattle.std.proofs.lemmas.Bool.{eqb-true, cond_both}
-use Rattle.std.specs.Ordering.{is_ge}
+use Rattle.std.specs.Ordering.{is_lt}
 use Rattle.ordered_stream.specs.declared.answer.Answer.{Answer}
 use Rattle.ordered_stream.specs.declared.answer.Answer.TheVariants.{NoneBefore, Pending}
 use Rattle.ordered_stream.specs.Meaning.{NoneBelow, Lower, Tells}
@@ -19,7 +19,7 @@ use Rattle.post_reader.proofs.Moving.{NoFloor, settles}
 -- what is above neither a floor nor a slot is not above the greater
 raised_below : (f : Option Slot) (o : Slot) (xs : List (Slot × Amount)) → Lower slot_order f xs → NoneBelow slot_order o xs → NoneBelow slot_order (raised f o) xs
 raised_below None o xs h k = k
-raised_below (Some f) o xs h k = cond_both (is_ge (slot_order f o)) f o (λ s. NoneBelow slot_order s xs) (λ _. h) (λ _. k)
+raised_below (Some f) o xs h k = cond_both (is_lt (slot_order o f)) f o (λ s. NoneBelow slot_order s xs) (λ _. h) (λ _. k)
 
 -- a sound state, by the entries ahead of it
 module _ (s : State) (es : List Entry) (e : s.ahead ≡ es) (h : Sound s) where
@@ -64,5 +64,5 @@ poll_tells s b h =
     let t = settled s in
     let k = settled_sound s h in
     cond_both (reaches slot_order t.floor b) (NoneBefore, t) (answered t) (StaysSound b)
-    (λ i. (k, position_tells slot_order slot_laws t.floor b i (records_in t) k.above))
+    (λ i. (k, position_tells slot_order slot_laws.total t.floor b i (records_in t) k.above))
     (λ _. answer_tells t b (settles s).front k)

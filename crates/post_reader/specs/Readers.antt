@@ -5,7 +5,7 @@ use Rattle.ordered_stream.specs.declared.answer.Answer.{Answer}
 use Rattle.ordered_stream.specs.Streams.{Stream}
 use Rattle.post_log.specs.declared.entry.Entry.{Entry}
 use Rattle.post_log.specs.Entries.{entries, spelled, records, Sized}
-use Rattle.post_log.specs.Words.{word_of}
+use Rattle.post_log.specs.Words.{word_of, post}
 use Rattle.garage.specs.declared.amount.Amount.{Amount}
 use Rattle.garage.specs.declared.slot.Slot.{Slot}
 use Rattle.post_reader.specs.declared.reader.Reader.{Reader}
@@ -13,7 +13,7 @@ use Rattle.post_reader.specs.Reading.{State, records_in, waits_in, past_floors, 
 
 -- the caller's words
 abbrev pub words_of : Reader → List ℕ
-words_of r = r.words.now
+words_of r = r.log.words.now
 
 -- those from the place on
 abbrev pub unread_of : Reader → List ℕ
@@ -25,7 +25,7 @@ ahead_from ws place n = entries n (map word_of (drop place ws))
 
 abbrev pub state_of : Reader → State
 state_of r =
-    record { post = r.post; place = r.place; number = r.number; silence = r.silence; floor = r.floor; ahead = ahead_from (words_of r) r.place r.number }
+    record { post = post (words_of r); place = r.place; number = r.number; silence = r.silence; floor = r.floor; ahead = ahead_from (words_of r) r.place r.number }
 
 abbrev pub reader_records : Reader → List (Slot × Amount)
 reader_records r = records_in (state_of r)
@@ -39,10 +39,13 @@ reader_floor r = r.floor
 abbrev pub ReaderSound : Reader → Type 0
 ReaderSound r = Sound (state_of r)
 
--- A poll answers by the reader's state, and keeps its words.
-pub record ReaderAnswers (s : Reader) (b : Option Slot) (a : Answer Slot Amount) (t : Reader) : Type 0 where
-  pub step : (a, state_of t) ≡ polled b (state_of s)
-  pub kept : t.words ≡ s.words
+-- The reader s answers a, and becomes t: what is computed of its state; its words stay.
+pub record Answered (computed : Answer Slot Amount × State) (s : Reader) (a : Answer Slot Amount) (t : Reader) : Type 0 where
+  pub step : (a, state_of t) ≡ computed
+  pub kept : t.log.words ≡ s.log.words
+
+abbrev pub ReaderAnswers : Reader → Option Slot → Answer Slot Amount → Reader → Type 0
+ReaderAnswers s b = Answered (polled b (state_of s)) s
 
 -- a reader as a stream
 abbrev pub reader_stream : Stream Reader Slot Amount
@@ -70,8 +73,7 @@ Next r (Some e) = AtPlace r e
 
 -- The entry at the place is passed.
 pub record Passed (e : Entry) (s t : Reader) : Type 0 where
-  pub words : t.words ≡ s.words
-  pub post : t.post ≡ s.post
+  pub words : t.log.words ≡ s.log.words
   pub place : t.place ≡ s.place + length (spelled e)
   pub number : t.number ≡ s.number + records (e ∷ [])
   pub silence : t.silence ≡ s.silence
@@ -80,9 +82,8 @@ pub record Passed (e : Entry) (s t : Reader) : Type 0 where
 -- The floors at the place are passed.
 pub record FloorsPassed (s t : Reader) : Type 0 where
   pub state : state_of t ≡ past_floors (state_of s).ahead (state_of s)
-  pub kept : t.words ≡ s.words
+  pub kept : t.log.words ≡ s.log.words
 
--- The answer is that of the entry at the place.
-pub record ByEntry (s : Reader) (a : Answer Slot Amount) (t : Reader) : Type 0 where
-  pub step : (a, state_of t) ≡ by_entry (state_of s).ahead (state_of s)
-  pub kept : t.words ≡ s.words
+-- the answer is that of the entry at the place
+abbrev pub ByEntry : Reader → Answer Slot Amount → Reader → Type 0
+ByEntry s = Answered (by_entry (state_of s).ahead (state_of s)) s

@@ -1,7 +1,7 @@
 -- SPDX-License-Identifier: MIT OR Apache-2.0
 -- How a log is read, poll by poll. Assumes nothing.
 use Rattle.std.specs.Prelude.{ℕ, ◌+◌, ◌-◌, cond, List, [], ◌∷◌, length, Some, None, Option, ◌==◌}
-use Rattle.std.specs.Ordering.{is_ge}
+use Rattle.std.specs.Ordering.{ord_max}
 use Rattle.ordered_stream.specs.declared.answer.Answer.{Answer}
 use Rattle.ordered_stream.specs.declared.answer.Answer.TheVariants.{Item, NoneBefore, Terminated, Pending}
 use Rattle.ordered_stream.specs.Meaning.{NoneBelow, Lower}
@@ -63,7 +63,7 @@ waits_in s = s.silence + silences s.ahead
 -- the greater of a floor and a slot
 abbrev pub raised : Option Slot → Slot → Slot
 raised None s = s
-raised (Some f) s = cond (is_ge (slot_order f s)) f s
+raised (Some f) s = ord_max slot_order f s
 
 -- an entry is passed, es being those after it: the silence then left, and the floor
 abbrev pub past : Entry → List Entry → ℕ → Option Slot → State → State

@@ -1,19 +1,17 @@
 // SPDX-License-Identifier: MIT OR Apache-2.0
 // A log that is partly read, and how it answers.
 ghost use Rattle.std.specs.Prelude.{◌≡◌, ◌+◌, ◌≤◌, length, drop};
-ghost use Rattle.post_log.specs.Verdict.{Passes};
 ghost use Rattle.post_reader.specs.Cases.{FloorAlone};
 
 use garage::{Amount, Slot};
-use ordered_stream::{Answer, FusedOrderedStream, OrderedStream, TotalOrder, reaches};
+use ordered_stream::{Answer, FusedOrderedStream, OrderedStream, reaches};
 use post_log::{CheckedLog, Entry};
 
 // Not `Copy`: what it has handed out is not handed out again.
-#[derive(Drop)]
+#[derive(Debug, Drop)]
 pub struct Reader<'a> {
-    // the caller's
-    words: &'a [u32],
-    post: u32,
+    // over the caller's words
+    log: CheckedLog<'a>,
     // of the first word that is not read yet
     place: usize,
     // of the next record
@@ -22,59 +20,32 @@ pub struct Reader<'a> {
     silence: u32,
     // no record to come has a lower slot
     floor: Option<Slot>,
-    // the words are a log's, so that each silence ahead is of one poll or more
-    ghost lawful: { Passes words.now },
-    // and no record ahead has a number that runs over
-    ghost few: { number + length (drop place words.now) ≤ 16382 },
-}
-
-// The words from a place on, and past their end none.
-fn words_from(words: &[u32], place: usize) -> &[u32]
-    ensures { result.now ≡ drop place words.now }
-{
-    if place > words.len() {
-        return &[];
-    }
-    &words[place..]
+    ghost within: { place ≤ length log.words.now },
+    // no record ahead has a number that runs over
+    ghost few: { number + length (drop place log.words.now) ≤ 16382 },
 }
 
 impl<'a> Reader<'a> {
     ghost use Rattle.std.specs.Prelude.{true, []};
-    ghost use Rattle.ordered_stream.specs.Bags.{Each};
-    ghost use Rattle.post_log.specs.Entries.{Told};
-    ghost use Rattle.post_log.specs.Rules.{Lawful};
-    ghost use Rattle.post_log.specs.Words.{body, post as post_of};
+    ghost use Rattle.std.specs.List.{AllByRecursion};
+    ghost use Rattle.post_log.specs.Words.{post};
     ghost use Rattle.garage.specs.Kinds.{least};
-    ghost use Rattle.garage.specs.Limits.{InstantWithin, PostWithin, RecordWithin};
+    ghost use Rattle.garage.specs.Limits.{InstantWithin, RecordWithin};
     ghost use Rattle.post_reader.specs.Reading.{opened, raised};
     ghost use Rattle.post_reader.specs.Readers.{unread_of, state_of, reader_records, all_read, ReaderSound, AtPlace, Next, Passed, FloorsPassed, ByEntry};
 
     // Reads a log from its body's first word.
+    #[tactic(auto, using(crate::proofs::Opening::opened_sound, crate::proofs::Opening::opened_within))]
     pub fn new(log: CheckedLog<'a>) -> Self
-        ensures words { result.words ≡ log.entry.words }
-        ensures state { state_of result ≡ opened (post_of log.entry.words.now) log.entry.words.now }
+        ensures words { result.log.words ≡ log.entry.words }
+        ensures state { state_of result ≡ opened (post log.entry.words.now) log.entry.words.now }
         ensures sound { ReaderSound result }
-        ensures within { Each RecordWithin (reader_records result) }
-    {
-        let post = log.post();
-        Reader::open(log.into_words(), post)
-    }
-
-    // The same, of the words of a log and its post.
-    fn open(words: &'a [u32], post: u32) -> Self
-        requires passes { Passes words.now }
-        requires lawful { Lawful words.now }
-        requires told { Told (body words.now) }
-        requires known { PostWithin post }
-        ensures words { result.words ≡ words.entry }
-        ensures state { state_of result ≡ opened post words.now }
-        ensures sound { ReaderSound result }
-        ensures within { Each RecordWithin (reader_records result) }
+        ensures within { AllByRecursion RecordWithin (reader_records result) }
     {
         Entry::meaning();
+        log.meaning();
         Reader {
-            words,
-            post,
+            log,
             place: 2,
             number: 0,
             silence: 0,
@@ -86,10 +57,11 @@ impl<'a> Reader<'a> {
     pub fn unread(&self) -> &'a [u32]
         ensures { result.now ≡ unread_of self.now }
     {
-        words_from(self.words, self.place)
+        &self.log.words()[self.place..]
     }
 
     // Whether every word is read; then nothing is to come.
+    #[tactic(auto, using(crate::proofs::Ahead::none_ahead))]
     fn all_read(&self) -> bool
         ensures value { result ≡ all_read self.now }
         ensures told { result ≡ true → reader_records self.now ≡ [] }
@@ -98,6 +70,7 @@ impl<'a> Reader<'a> {
     }
 
     // The entry at the place.
+    #[tactic(auto, using(crate::proofs::Ahead::next_by))]
     fn next_entry(&self) -> Option<Entry>
         ensures { Next self.now result }
     {
@@ -110,13 +83,8 @@ impl<'a> Reader<'a> {
         requires { InstantWithin instant }
         ensures { result ≡ raised self.now.floor (least instant) }
     {
-        let Ok(least) = Slot::least_of(instant) else {
-            unreachable!()
-        };
-        match self.floor {
-            Some(floor) if floor.compare(least).is_ge() => floor,
-            _ => least,
-        }
+        let least = Slot::least_of(instant).unwrap();
+        self.floor.map_or(least, |floor| floor.max(least))
     }
 
     // Passes the entry at the place.
@@ -132,9 +100,7 @@ impl<'a> Reader<'a> {
     fn pass_floors(&mut self)
         ensures { FloorsPassed self.old self.new }
     {
-        while let Some(entry) = self.next_entry()
-            && let Entry::Floor { instant } = entry
-        {
+        while let Some(entry @ Entry::Floor { instant }) = self.next_entry() {
             self.floor = Some(self.raised(instant));
             self.pass(entry);
         }
@@ -144,26 +110,25 @@ impl<'a> Reader<'a> {
     fn answer_entry(&mut self) -> Answer<Slot, Amount>
         ensures { ByEntry self.old result self.new }
     {
-        let Some(entry) = self.next_entry() else {
-            return Answer::Terminated;
-        };
-        match entry {
-            Entry::Floor { .. } => Answer::Terminated,
-            Entry::Silence { polls } => {
+        match self.next_entry() {
+            None | Some(Entry::Floor { .. }) => Answer::Terminated,
+            Some(entry @ Entry::Silence { polls }) => {
                 self.pass(entry);
                 self.silence = polls - 1;
                 Answer::Pending
             }
-            Entry::Record {
-                instant,
-                class,
-                number,
-                amount,
-            } => {
+            Some(
+                entry @ Entry::Record {
+                    instant,
+                    class,
+                    number,
+                    amount,
+                },
+            ) => {
                 let slot = Slot {
                     instant,
                     class,
-                    post: self.post,
+                    post: self.log.post(),
                     number,
                 };
                 self.pass(entry);
@@ -198,11 +163,13 @@ impl<'a> OrderedStream for Reader<'a> {
     ghost hint = { reader_floor };
 
     // The floor answers before a silence does: what is known to come later need not be waited for.
-    fn poll_next_before(&mut self, before: &Option<Slot>) -> Answer<Slot, Amount> {
+    fn poll_next_before(&mut self, before: Option<Slot>) -> Answer<Slot, Amount>
+        ensures { ReaderAnswers self.old before result self.new }
+    {
         if self.silence == 0 {
             self.pass_floors();
         }
-        if reaches(self.floor, *before) {
+        if reaches(self.floor, before) {
             return Answer::NoneBefore;
         }
         if self.silence > 0 {
@@ -216,6 +183,7 @@ impl<'a> OrderedStream for Reader<'a> {
         self.floor
     }
 
+    #[tactic(auto, using(crate::proofs::Laws::reader_laws, crate::proofs::Laws::reader_in_turn))]
     fn meaning()
         ensures laws { IsStream slot_order reader_stream }
         // and the records come in the log's order

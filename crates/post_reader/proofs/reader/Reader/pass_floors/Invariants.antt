@@ -5,10 +5,10 @@ use Rattle.post_reader.specs.Readers.{words_of, state_of}
 use Rattle.post_reader.proofs.reader.Reader.pass_floors.Given as goal
 
 -- Passing the floors that are left comes to what passing all of them does.
-abbrev pub invariant-loop-entry : goal.invariant-loop-entry
-invariant-loop-entry l =
+abbrev pub invariant-loop-instant : goal.invariant-loop-instant
+invariant-loop-instant l =
     (past_floors (state_of l.self).ahead (state_of l.self) ≡ past_floors (state_of l.initial.self).ahead (state_of l.initial.self))
-    × (l.self.words ≡ l.initial.self.words)
+    × (l.self.log.words ≡ l.initial.self.log.words)
 
-abbrev pub decreases-loop-entry : goal.decreases-loop-entry
-decreases-loop-entry l = length (words_of l.self) - l.self.place
+abbrev pub decreases-loop-instant : goal.decreases-loop-instant
+decreases-loop-instant l = length (words_of l.self) - l.self.place
