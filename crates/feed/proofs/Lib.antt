@@ -1,4 +1,3 @@
 -- SPDX-License-Identifier: MIT OR Apache-2.0
 mod Bytes
-mod Texts
 mod Whole

@@ -1,14 +1,18 @@
 -- SPDX-License-Identifier: MIT OR Apache-2.0
 -- The words in bytes, and the logs in words. Assumes nothing.
-use Rattle.std.specs.Prelude.{ℕ, ◌+◌, ◌*◌, ◌/◌, ◌%◌, min, List, [], ◌∷◌, length, take, drop}
+use Rattle.std.specs.Prelude.{ℕ, ◌+◌, ◌*◌, ◌/◌, ◌%◌, min, List, [], ◌∷◌, length, take, drop, slice_index}
 
--- four bytes to a word, the highest first
+-- the word in four bytes, the highest first
+abbrev pub word : List ℕ → ℕ
+word bs = slice_index bs 0 * 0x100_0000 + slice_index bs 1 * 0x1_0000 + slice_index bs 2 * 0x100 + slice_index bs 3
+
+-- four bytes to a word
 abbrev pub words_of : List ℕ → List ℕ
 words_of [] = []
 words_of (a ∷ []) = []
 words_of (a ∷ b ∷ []) = []
 words_of (a ∷ b ∷ c ∷ []) = []
-words_of (a ∷ b ∷ c ∷ d ∷ bs) = (a * 0x100_0000 + b * 0x1_0000 + c * 0x100 + d) ∷ words_of bs
+words_of (a ∷ b ∷ c ∷ d ∷ bs) = word (a ∷ b ∷ c ∷ d ∷ []) ∷ words_of bs
 
 -- the bytes of words, four each, the highest first
 abbrev pub spelled : List ℕ → List ℕ

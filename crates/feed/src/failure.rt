@@ -6,9 +6,10 @@ ghost use Rattle.feed.specs.Failures.{message};
 
 use post_log::Refusal;
 use std::alloc::AllocError;
+use std::error::Error;
 use std::fmt;
 
-#[derive(Clone, Copy)]
+#[derive(Clone, Copy, Debug, PartialEq, Eq)]
 pub enum Failure {
     // the log is none
     Refused(Refusal),
@@ -50,12 +51,8 @@ impl fmt::Display for Failure {
     ghost output = { λ x. Some (message x) };
 
     fn fmt<W: fmt::Write>(&self, f: &mut fmt::Formatter<W>) -> fmt::Result {
-        match *self {
-            Failure::Refused(refusal) => {
-                let number = refusal.number();
-                let place = refusal.place();
-                write!(f, "refused {number} at {place} of log 0")
-            }
+        match self {
+            Failure::Refused(refusal) => write!(f, "{refusal} of log 0"),
             Failure::TooLong => write!(f, "input above 65536 bytes is not read yet"),
             Failure::NotWords => write!(f, "input that is not in fours of bytes is not read yet"),
             Failure::MoreLogs => write!(f, "more than one log is not read yet"),
@@ -63,3 +60,5 @@ impl fmt::Display for Failure {
         }
     }
 }
+
+impl Error for Failure {}

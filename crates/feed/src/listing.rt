@@ -9,7 +9,7 @@ ghost use Rattle.feed.specs.Outcomes.{Gives, Lists, Ruled};
 use crate::failure::Failure;
 use crate::input::{first_log, words};
 use crate::line::Line;
-use post_log::{CheckedLog, Entry, check};
+use post_log::CheckedLog;
 use std::alloc::Global;
 use std::fmt::Write;
 
@@ -20,23 +20,9 @@ pub const MOST_BYTES: usize = 65_536;
 fn list_log(heap: Global, log: &CheckedLog) -> Result<String, Failure>
     ensures { MatchResult result (λ s. string_bytes s ≡ listing_of log.now.words.now) (λ f. f ≡ NoMemory) }
 {
-    let post = log.post();
     let mut text = String::new(heap);
     for entry in log.entries() {
-        if let Entry::Record {
-            instant,
-            class,
-            number,
-            amount,
-        } = entry
-        {
-            let line = Line {
-                instant,
-                class,
-                post,
-                number,
-                amount,
-            };
+        if let Some(line) = Line::of(log.post(), entry) {
             writeln!(text, "{line}")?;
         }
     }
@@ -66,7 +52,6 @@ pub fn list(heap: Global, input: &[u8]) -> Result<String, Failure>
     }
     let words = words(heap, input)?;
     let (first, later) = first_log(words.as_slice());
-    let mut log = CheckedLog::empty();
-    check(first, &mut log)?;
+    let log = CheckedLog::try_from(first)?;
     list_only(heap, &log, later)
 }

@@ -16,16 +16,12 @@ fn main(rt: HostRuntime) -> anyhow::Result<ExitCode> {
         .read_to_end(&mut input)?;
     match list(heap, input.as_slice()) {
         Ok(listing) => {
-            print!(rt; "{listing}")?;
-            Ok(ExitCode::SUCCESS)
+            rt.print(listing)?;
+            return Ok(ExitCode::SUCCESS);
         }
-        Err(failure) => {
-            match failure {
-                Failure::Refused(_) => println!(rt; "{failure}")?,
-                _ => eprintln!(rt; "garage_feed: {failure}")?,
-            }
-            // all is said, but for the status; an `Err` of `main` would be printed as well
-            Ok(ExitCode::FAILURE)
-        }
+        Err(failure @ Failure::Refused(_)) => rt.println(failure)?,
+        Err(failure) => eprintln!(rt; "garage_feed: {failure}")?,
     }
+    // all is said, but for the status; an `Err` of `main` would be printed as well
+    Ok(ExitCode::FAILURE)
 }

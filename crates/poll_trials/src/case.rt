@@ -1,13 +1,13 @@
 // SPDX-License-Identifier: MIT OR Apache-2.0
 // A line of the input: a stream, and the bounds that it is polled under.
-use anyhow::anyhow;
+use anyhow::{Context, bail, ensure};
 use calendar::Plan;
 use garage::Slot;
 use post_log::Class;
 use std::alloc::Global;
 use std::str::SplitWhitespace;
 
-#[derive(Drop)]
+#[derive(Debug, Drop)]
 pub(crate) enum Case {
     // the words of a log
     Log(Vec<u32>),
@@ -20,45 +20,33 @@ pub(crate) enum Case {
 }
 
 fn number(text: Option<&str>) -> anyhow::Result<u32> {
-    match text {
-        Some(digits) => Ok(digits.parse::<u32>()?),
-        None => Err(anyhow!("a number is missing")),
-    }
+    Ok(text.context("a number is missing")?.parse()?)
 }
 
 // A slot by its instant, class, post and number; a bound may be past the limits of a record's.
 fn slot(text: &str) -> anyhow::Result<Slot> {
     let mut parts = text.split('.');
-    let instant = number(parts.next())?;
-    let code = number(parts.next())?;
-    let post = number(parts.next())?;
-    let number = number(parts.next())?;
-    match (Class::from_code(code), parts.next()) {
-        (Some(class), None) => Ok(Slot {
-            instant,
-            class,
-            post,
-            number,
-        }),
-        _ => Err(anyhow!("no slot")),
-    }
+    let slot = Slot {
+        instant: number(parts.next())?,
+        class: Class::try_from(number(parts.next())?)?,
+        post: number(parts.next())?,
+        number: number(parts.next())?,
+    };
+    ensure!(parts.next().is_none(), "more than a slot");
+    Ok(slot)
 }
 
-fn bounds(heap: Global, text: &str) -> anyhow::Result<Vec<Option<Slot>>> {
-    let mut polls = Vec::new(heap);
-    for word in text.split_whitespace() {
-        let before = if word == "-" { None } else { Some(slot(word)?) };
-        polls.push(before)?;
+fn bound(word: &str) -> anyhow::Result<Option<Slot>> {
+    match word {
+        "-" => Ok(None),
+        _ => Ok(Some(slot(word)?)),
     }
-    Ok(polls)
 }
 
 fn log_words(heap: Global, words: SplitWhitespace<'_>) -> anyhow::Result<Vec<u32>> {
-    let mut log = Vec::new(heap);
-    for word in words {
-        log.push(u32::from_str_radix(word, 16)?)?;
-    }
-    Ok(log)
+    words
+        .map(|word| -> anyhow::Result<u32> { Ok(u32::from_str_radix(word, 16)?) })
+        .try_collect(heap)
 }
 
 fn tariffs(mut words: SplitWhitespace<'_>) -> anyhow::Result<Plan> {
@@ -70,10 +58,8 @@ fn tariffs(mut words: SplitWhitespace<'_>) -> anyhow::Result<Plan> {
         odd: number(words.next())?,
         post: number(words.next())?,
     };
-    match words.next() {
-        Some(_) => Err(anyhow!("more than a plan")),
-        None => Ok(plan),
-    }
+    ensure!(words.next().is_none(), "more than a plan");
+    Ok(plan)
 }
 
 fn stream(heap: Global, text: &str) -> anyhow::Result<Case> {
@@ -83,14 +69,13 @@ fn stream(heap: Global, text: &str) -> anyhow::Result<Case> {
         Some("some") => Ok(Case::Present(log_words(heap, words)?)),
         Some("calendar") => Ok(Case::Tariffs(tariffs(words)?)),
         Some("absent") if words.next().is_none() => Ok(Case::Absent),
-        _ => Err(anyhow!("no stream")),
+        _ => bail!("no stream"),
     }
 }
 
 // The stream before the semicolon, and the bounds after it.
 pub(crate) fn parse(heap: Global, line: &str) -> anyhow::Result<(Case, Vec<Option<Slot>>)> {
-    match line.split_once(';') {
-        Some((before, after)) => Ok((stream(heap, before)?, bounds(heap, after)?)),
-        None => Err(anyhow!("no polls")),
-    }
+    let (before, after) = line.split_once(';').context("no polls")?;
+    let polls = after.split_whitespace().map(bound).try_collect(heap)?;
+    Ok((stream(heap, before)?, polls))
 }

@@ -1,14 +1,14 @@
 // SPDX-License-Identifier: MIT OR Apache-2.0
 // What a poll comes to: its answer, and what the stream tells of itself after it.
 use crate::case::Case;
-use calendar::{Calendar, Plan};
+use calendar::Calendar;
 use feed::Line;
-use garage::{Amount, Slot};
+use garage::{Amount, PastLimit, Slot};
 use ordered_stream::{Answer, FusedOrderedStream, OrderedStream};
-use post_log::{CheckedLog, Refusal, check};
+use post_log::{CheckedLog, Refusal};
 use post_reader::Reader;
 use std::alloc::{AllocError, Global};
-use std::fmt;
+use std::fmt::{self, Write};
 
 // A stream that may be one of words.
 trait Tried: FusedOrderedStream {
@@ -30,14 +30,11 @@ impl Tried for Calendar {
 
 impl<S: Tried> Tried for Option<S> {
     fn left(&self) -> Option<usize> {
-        match self {
-            Some(s) => s.left(),
-            None => None,
-        }
+        self.as_ref()?.left()
     }
 }
 
-#[derive(Clone, Copy)]
+#[derive(Clone, Copy, Debug)]
 struct Outcome {
     answer: Answer<Slot, Amount>,
     hint: Option<Slot>,
@@ -45,8 +42,8 @@ struct Outcome {
     left: Option<usize>,
 }
 
-impl Outcome {
-    fn write_answer<W: fmt::Write>(&self, f: &mut fmt::Formatter<W>) -> fmt::Result {
+impl fmt::Display for Outcome {
+    fn fmt<W: fmt::Write>(&self, f: &mut fmt::Formatter<W>) -> fmt::Result {
         match self.answer {
             Answer::Item { ordering, datum } => {
                 let line = Line {
@@ -56,32 +53,23 @@ impl Outcome {
                     number: ordering.number,
                     amount: datum.units,
                 };
-                write!(f, "item {line}")
+                write!(f, "item {line}")?;
             }
-            Answer::NoneBefore => write!(f, "none"),
-            Answer::Terminated => write!(f, "end"),
-            Answer::Pending => write!(f, "pending"),
+            Answer::NoneBefore => write!(f, "none")?,
+            Answer::Terminated => write!(f, "end")?,
+            Answer::Pending => write!(f, "pending")?,
         }
-    }
-
-    fn write_hint<W: fmt::Write>(&self, f: &mut fmt::Formatter<W>) -> fmt::Result {
         match self.hint {
             Some(slot) => {
-                let instant = slot.instant;
-                let class = slot.class.code();
-                let post = slot.post;
-                let number = slot.number;
-                write!(f, " hint {instant}.{class}.{post}.{number}")
+                let class = u32::from(slot.class);
+                write!(
+                    f,
+                    " hint {}.{class}.{}.{}",
+                    slot.instant, slot.post, slot.number
+                )?;
             }
-            None => write!(f, " hint -"),
+            None => write!(f, " hint -")?,
         }
-    }
-}
-
-impl fmt::Display for Outcome {
-    fn fmt<W: fmt::Write>(&self, f: &mut fmt::Formatter<W>) -> fmt::Result {
-        self.write_answer(f)?;
-        self.write_hint(f)?;
         if self.over {
             write!(f, " over")?;
         }
@@ -94,7 +82,7 @@ impl fmt::Display for Outcome {
 
 fn polled<S: Tried + OrderedStream<Ordering = Slot, Data = Amount>>(
     stream: &mut S,
-    before: &Option<Slot>,
+    before: Option<Slot>,
 ) -> Outcome {
     let answer = stream.poll_next_before(before);
     Outcome {
@@ -105,71 +93,39 @@ fn polled<S: Tried + OrderedStream<Ordering = Slot, Data = Amount>>(
     }
 }
 
-// What each poll comes to, in turn.
-fn answers<S: Tried + OrderedStream<Ordering = Slot, Data = Amount>>(
-    heap: Global,
-    stream: &mut S,
-    polls: &[Option<Slot>],
-) -> Result<String, AllocError> {
+// What each poll comes to, in turn, or why there is no stream to poll.
+fn outcomes<
+    S: Tried + OrderedStream<Ordering = Slot, Data = Amount> + Drop,
+    E: fmt::Display + Drop,
+>(heap: Global, stream: Result<S, E>, polls: &[Option<Slot>]) -> Result<String, AllocError> {
+    let mut stream = match stream {
+        Ok(stream) => stream,
+        Err(refusal) => return refusal.to_string(heap),
+    };
     let mut text = String::new(heap);
     for before in polls {
         if !text.is_empty() {
             text.push_str("; ")?;
         }
-        let outcome = polled(stream, before);
-        text.push_str(format!(in heap; "{outcome}")?.as_str())?;
+        write!(text, "{}", polled(&mut stream, *before))?;
     }
     Ok(text)
 }
 
-fn refused(heap: Global, refusal: Refusal) -> Result<String, AllocError> {
-    let number = refusal.number();
-    let place = refusal.place();
-    format!(in heap; "refused {number} at {place}")
+fn reader(words: &[u32]) -> Result<Reader<'_>, Refusal> {
+    CheckedLog::try_from(words).map(Reader::new)
 }
 
-fn log_line(heap: Global, words: &[u32], polls: &[Option<Slot>]) -> Result<String, AllocError> {
-    let mut log = CheckedLog::empty();
-    match check(words, &mut log) {
-        Ok(()) => answers(heap, &mut Reader::new(log), polls),
-        Err(refusal) => refused(heap, refusal),
-    }
-}
-
-fn present_line(heap: Global, words: &[u32], polls: &[Option<Slot>]) -> Result<String, AllocError> {
-    let mut log = CheckedLog::empty();
-    match check(words, &mut log) {
-        Ok(()) => answers(heap, &mut Some(Reader::new(log)), polls),
-        Err(refusal) => refused(heap, refusal),
-    }
-}
-
-fn absent_line(heap: Global, polls: &[Option<Slot>]) -> Result<String, AllocError> {
-    let mut absent: Option<Calendar> = None;
-    answers(heap, &mut absent, polls)
-}
-
-fn calendar_line(heap: Global, plan: Plan, polls: &[Option<Slot>]) -> Result<String, AllocError> {
-    match Calendar::new(plan) {
-        Ok(mut calendar) => answers(heap, &mut calendar, polls),
-        Err(past) => {
-            let number = past.number();
-            let value = past.value();
-            format!(in heap; "refused {number} at {value}")
-        }
-    }
-}
-
-// What the polls of a case come to, or why there is no such stream.
+// What the polls of a case come to.
 pub(crate) fn line(
     heap: Global,
     case: &Case,
     polls: &[Option<Slot>],
 ) -> Result<String, AllocError> {
     match case {
-        Case::Log(words) => log_line(heap, words.as_slice(), polls),
-        Case::Present(words) => present_line(heap, words.as_slice(), polls),
-        Case::Absent => absent_line(heap, polls),
-        Case::Tariffs(plan) => calendar_line(heap, *plan, polls),
+        Case::Log(words) => outcomes(heap, reader(words.as_slice()), polls),
+        Case::Present(words) => outcomes(heap, reader(words.as_slice()).map(Some), polls),
+        Case::Absent => outcomes::<Option<Calendar>, PastLimit>(heap, Ok(None), polls),
+        Case::Tariffs(plan) => outcomes(heap, Calendar::new(*plan), polls),
     }
 }

@@ -3,37 +3,30 @@
 ghost use Rattle.std.specs.Prelude.{◌/◌};
 
 use garage::{Amount, Instant, Line, Minute, PastLimit, Slot};
-use ordered_stream::{Answer, Function, TotalOrder};
+use ordered_stream::{Answer, Function};
 use post_log::Class;
-
-// The number and the value of a refusal.
-fn refusal<T: Drop>(made: Result<T, PastLimit>) -> Option<(u32, u32)> {
-    match made {
-        Ok(_) => None,
-        Err(past) => Some((past.number(), past.value())),
-    }
-}
 
 #[test]
 fn makes_nothing_past_a_limit(rt: HostRuntime) {
     let class = Class::PlugEvent;
     let within = [
-        refusal(Slot::new(0x3FFF_FFFF, class, 1023, 0xF_FFFF)),
-        refusal(Slot::least_of(0x3FFF_FFFF)),
-        refusal(Amount::new(0x0FFF_FFFF)),
-        refusal(Line::new(class, 1023, 0x0FFF_FFFF)),
+        Slot::new(0x3FFF_FFFF, class, 1023, 0xF_FFFF).is_ok(),
+        Slot::least_of(0x3FFF_FFFF).is_ok(),
+        Amount::try_from(0x0FFF_FFFF).is_ok(),
+        Line::new(class, 1023, 0x0FFF_FFFF).is_ok(),
     ];
-    assert_eq!(rt; within, [None; 4]);
+    assert_eq!(rt; within, [true; 4]);
     let past = [
-        refusal(Slot::new(0x4000_0000, class, 1023, 0xF_FFFF)),
-        refusal(Slot::new(0x3FFF_FFFF, class, 1024, 0xF_FFFF)),
-        refusal(Slot::new(0x3FFF_FFFF, class, 1023, 0x10_0000)),
-        refusal(Slot::least_of(0x4000_0000)),
-        refusal(Amount::new(0x1000_0000)),
-        refusal(Line::new(class, 1024, 0x0FFF_FFFF)),
-        refusal(Line::new(class, 1023, 0x1000_0000)),
+        Slot::new(0x4000_0000, class, 1023, 0xF_FFFF).err(),
+        Slot::new(0x3FFF_FFFF, class, 1024, 0xF_FFFF).err(),
+        Slot::new(0x3FFF_FFFF, class, 1023, 0x10_0000).err(),
+        Slot::least_of(0x4000_0000).err(),
+        Amount::try_from(0x1000_0000).err(),
+        Line::new(class, 1024, 0x0FFF_FFFF).err(),
+        Line::new(class, 1023, 0x1000_0000).err(),
     ];
-    assert_eq!(rt; past, [Some((6, 0)); 7]);
+    assert_eq!(rt; past, [Some(PastLimit); 7]);
+    assert_eq!(rt; (PastLimit.number(), PastLimit.value()), (6, 0));
 }
 
 fn slot(instant: u32, class: Class, post: u32, number: u32) -> Slot {
@@ -49,16 +42,14 @@ fn slot(instant: u32, class: Class, post: u32, number: u32) -> Slot {
 fn compares_by_each_part_in_turn(rt: HostRuntime) {
     let middle = slot(7, Class::Reading, 7, 7);
     let below = [
-        slot(6, Class::PlugEvent, 9, 9).compare(middle).is_lt(),
-        slot(7, Class::Tariff, 9, 9).compare(middle).is_lt(),
-        slot(7, Class::Reading, 6, 9).compare(middle).is_lt(),
-        slot(7, Class::Reading, 7, 6).compare(middle).is_lt(),
-        middle.compare(slot(7, Class::Reading, 7, 6)).is_gt(),
-        middle.compare(middle).is_eq(),
-        Instant { seconds: 1 }
-            .compare(Instant { seconds: 2 })
-            .is_lt(),
-        Minute { minutes: 2 }.compare(Minute { minutes: 1 }).is_gt(),
+        slot(6, Class::PlugEvent, 9, 9) < middle,
+        slot(7, Class::Tariff, 9, 9) < middle,
+        slot(7, Class::Reading, 6, 9) < middle,
+        slot(7, Class::Reading, 7, 6) < middle,
+        middle > slot(7, Class::Reading, 7, 6),
+        middle.cmp(&middle).is_eq(),
+        Instant { seconds: 1 } < Instant { seconds: 2 },
+        Minute { minutes: 2 } > Minute { minutes: 1 },
     ];
     assert_eq!(rt; below, [true; 8]);
 }
@@ -92,6 +83,6 @@ fn takes_answers_apart(rt: HostRuntime) {
         ordering: 3,
         datum: Err(5),
     };
-    assert!(rt; matches!(failed.transpose_result(), Err(5)));
-    assert!(rt; matches!(failed.transpose_result_item(), Err((3, 5))));
+    assert_eq!(rt; failed.transpose_result(), Err(5));
+    assert_eq!(rt; failed.transpose_result_item(), Err((3, 5)));
 }

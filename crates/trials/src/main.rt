@@ -4,43 +4,26 @@
 #![tactic(auto)]
 
 use feed::Line;
-use post_log::{CheckedLog, Entry, check};
+use post_log::CheckedLog;
 use std::alloc::{AllocError, Global};
+use std::fmt::Write;
 use std::io::{BufRead, BufReader};
 
 fn parse(heap: Global, line: &str) -> anyhow::Result<Vec<u32>> {
-    let mut words = Vec::new(heap);
-    for word in line.split_whitespace() {
-        words.push(u32::from_str_radix(word, 16)?)?;
-    }
-    Ok(words)
+    line.split_whitespace()
+        .map(|word| u32::from_str_radix(word, 16).map_err(anyhow::Error::from))
+        .try_collect(heap)
 }
 
 fn answer(heap: Global, words: &[u32]) -> Result<String, AllocError> {
-    let mut log = CheckedLog::empty();
-    if let Err(refusal) = check(words, &mut log) {
-        let number = refusal.number();
-        let place = refusal.place();
-        return format!(in heap; "refused {number} at {place}");
-    }
-    let post = log.post();
+    let log = match CheckedLog::try_from(words) {
+        Ok(log) => log,
+        Err(refusal) => return refusal.to_string(heap),
+    };
     let mut text = String::from_str(heap, "ok")?;
     for entry in log.entries() {
-        if let Entry::Record {
-            instant,
-            class,
-            number,
-            amount,
-        } = entry
-        {
-            let line = Line {
-                instant,
-                class,
-                post,
-                number,
-                amount,
-            };
-            text.push_str(format!(in heap; "; {line}")?.as_str())?;
+        if let Some(line) = Line::of(log.post(), entry) {
+            write!(text, "; {line}")?;
         }
     }
     Ok(text)
@@ -58,15 +41,13 @@ fn main(rt: HostRuntime) -> anyhow::Result<()> {
 #[cfg(test)]
 mod tests {
     use super::*;
-    use feed::{Failure, list};
+    use feed::list;
     use std::test::Fail;
 
     // What the check answers to a body of so many words: floors at instant 1, and at its end the given words.
     fn at_end(heap: Global, count: u32, end: &[u32]) -> Result<String, AllocError> {
         let mut words = vec![in heap; 0xC000_0005, count]?;
-        for _ in end.len()..count as usize {
-            words.push(1)?;
-        }
+        words.resize(2 + (count as usize).saturating_sub(end.len()), 1)?;
         words.extend_from_slice(end)?;
         answer(heap, words.as_slice())
     }
@@ -111,10 +92,7 @@ mod tests {
 
     // What the program says of bytes: its listing, or why there is none.
     fn said(heap: Global, bytes: &[u8]) -> Result<String, AllocError> {
-        match list(heap, bytes) {
-            Ok(text) => Ok(text),
-            Err(failure) => format!(in heap; "{failure}"),
-        }
+        list(heap, bytes).or_else(|failure| failure.to_string(heap))
     }
 
     #[test]
