@@ -1,6 +1,6 @@
 -- SPDX-License-Identifier: MIT OR Apache-2.0
 -- The kinds of orderings: what decides, key after key. Assumes nothing.
-use Rattle.std.specs.Prelude.{ℕ}
+use Rattle.std.specs.Prelude.{◌≡◌, ℕ}
 use Rattle.std.specs.declared.cmp.Ordering.{Ordering}
 use Rattle.std.specs.Cmp.Rules.{comparing}
 use Rattle.std.specs.Ordering.{nat_cmp, on, then_cmp}
@@ -10,7 +10,7 @@ use Rattle.ordered_stream.specs.Orders.{OrderLaws}
 use Rattle.post_log.specs.contracts.class.ClassOrd.TheImpl as class
 use Rattle.post_log.specs.contracts.class.ClassOrd.TheImpl.Laws as class_laws
 use Rattle.post_log.specs.declared.class.Class.{Class}
-use Rattle.post_log.specs.Classes.{first}
+use Rattle.post_log.specs.Classes.{rank, first}
 use Rattle.garage.specs.declared.instant.Instant.{Instant}
 use Rattle.garage.specs.declared.minute.Minute.{Minute}
 use Rattle.garage.specs.declared.slot.Slot.{Slot}
@@ -34,9 +34,16 @@ slots_by classes =
     (then_cmp (on (λ s. s.class) classes)
     (then_cmp (on (λ s. s.post) nat_cmp) (on (λ s. s.number) nat_cmp)))
 
--- the classes as they compare, which is by their ranks
+-- the classes by their ranks
+abbrev pub slots_by_rank : Slot → Slot → Ordering
+slots_by_rank = slots_by (on rank nat_cmp)
+
+-- the classes as they compare, which is the same
 abbrev pub slot_order : Slot → Slot → Ordering
 slot_order = slots_by class.ghosts.cmp
+
+pub slot_by_rank : (x y : Slot) → slot_order x y ≡ slots_by_rank x y
+slot_by_rank x y = grind arith
 
 pub slot_laws : OrderLaws slot_order
 slot_laws = record { total = search (comparing, rules, class_laws.total-law) depth 9; same = λ x y e. grind (arith, nat_tests) }

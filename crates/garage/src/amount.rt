@@ -1,9 +1,10 @@
 // SPDX-License-Identifier: MIT OR Apache-2.0
-// What a record counts: a rate, a reading, or what a plug event tells.
+//! What a record counts: a rate, a reading, or what a plug event tells.
 ghost use Rattle.garage.specs.Limits.{Makes, AmountWithin};
 
 use crate::limit::{AMOUNTS, PastLimit};
 
+/// So many units. `try_from` makes one below `AMOUNTS`.
 #[derive(Clone, Copy, Debug, PartialEq, Eq)]
 pub struct Amount {
     pub units: u32,

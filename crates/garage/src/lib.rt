@@ -1,5 +1,5 @@
 // SPDX-License-Identifier: MIT OR Apache-2.0
-// What a garage's records are ordered by, and what they carry.
+//! What a garage's records are ordered by, and what they carry.
 #![tactic(auto)]
 
 mod amount;

@@ -1,6 +1,7 @@
 -- SPDX-License-Identifier: MIT OR Apache-2.0
 -- What an answer gives when it is taken apart. Assumes nothing.
 use Rattle.std.specs.Prelude.{Some, None, Ok, Err, Option, Result}
+use Rattle.std.specs.Result.{result_map_both}
 use Rattle.ordered_stream.specs.declared.answer.Answer.{Answer}
 use Rattle.ordered_stream.specs.declared.answer.Answer.TheVariants.{Item, NoneBefore, Terminated, Pending}
 
@@ -32,4 +33,4 @@ transpose_result_item Pending = Ok Pending
 
 -- or without it
 abbrev pub transpose_result : {O D E : Type 0} → Answer O (Result D E) → Result (Answer O D) E
-transpose_result a = elim (transpose_result_item a) [ Ok b ↦ Ok b | Err e ↦ Err e.1 ]
+transpose_result a = result_map_both (λ b. b) (λ e. e.1) (transpose_result_item a)

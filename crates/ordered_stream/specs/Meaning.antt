@@ -1,6 +1,6 @@
 -- SPDX-License-Identifier: MIT OR Apache-2.0
 -- What a stream's answers mean. Assumes nothing.
-use Rattle.std.specs.Prelude.{◌≡◌, ℕ, ◌<◌, ◌≤◌, List, [], ◌∷◌, Some, None, Option, ◌≢◌}
+use Rattle.std.specs.Prelude.{◌≡◌, ℕ, ◌<◌, ◌≤◌, List, [], ◌∷◌, Some, None, Option, IfSome, ◌≢◌}
 use Rattle.std.specs.declared.cmp.Ordering.TheVariants.{Less}
 use Rattle.std.specs.declared.cmp.Ordering.{Ordering}
 use Rattle.std.specs.List.{AllByRecursion}
@@ -46,8 +46,7 @@ module _ {O D : Type 0} (cmp : O → O → Ordering) where
 
   -- a position, if there is one, is above no record's ordering
   abbrev pub Lower : Option O → List (O × D) → Type 0
-  Lower None xs = Unit {0}
-  Lower (Some o) xs = NoneBelow o xs
+  Lower p xs = IfSome p (λ o. NoneBelow o xs)
 
   -- What an answer of a sound stream tells of the records that are still to come.
   abbrev pub Tells : Option O → Answer O D → List (O × D) → Type 0

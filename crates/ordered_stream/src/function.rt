@@ -1,7 +1,8 @@
 // SPDX-License-Identifier: MIT OR Apache-2.0
-// A fixed function, where Rust passes a closure.
+//! A fixed function, where Rust passes a closure.
 ghost use Rattle.std.specs.Prelude.{◌≡◌};
 
+/// A function whose value its argument settles.
 pub trait Function<X> {
     type Output;
 

@@ -1,5 +1,5 @@
 // SPDX-License-Identifier: MIT OR Apache-2.0
-// Streams whose records come in order, by what they mean.
+//! Streams whose records come in order, by what they mean.
 #![tactic(auto)]
 
 mod answer;

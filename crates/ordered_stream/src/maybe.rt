@@ -1,5 +1,5 @@
 // SPDX-License-Identifier: MIT OR Apache-2.0
-// A stream that may be absent: absent, it is at its end.
+//! A stream that may be absent: absent, it is at its end.
 ghost use Rattle.ordered_stream.specs.Maybe.{option_records, option_waits, OptionSound, OptionAnswers, option_hint, option_terminated};
 
 use crate::answer::Answer;

@@ -4,7 +4,7 @@ use Rattle.std.proofs.Common.{◌≡◌, ℕ, ◌+◌, ◌<◌, ◌≤◌, List,
 use Rattle.std.proofs.lemmas.List.{drop-map, length-map, take_rest}
 use Rattle.std.specs.List.{between, slice_get}
 use Rattle.post_log.specs.declared.entry.Entry.{Entry}
-use Rattle.post_log.specs.declared.entry.Entry.TheVariants.{Record, Floor as FloorAt, Silence as Silent}
+use Rattle.post_log.specs.declared.entry.Entry.TheVariants.{Floor as FloorAt, Silence as Silent}
 use Rattle.post_log.specs.declared.word.Word.{Word}
 use Rattle.post_log.specs.declared.word.Word.TheVariants.{Floor, Head, Silence, Data}
 use Rattle.post_log.specs.Words.{word_of}
@@ -12,9 +12,7 @@ use Rattle.post_log.specs.Entries.{entries, spelled, records, Begins, FirstBegin
 
 -- an entry takes a word or more for each record in it
 narrow : (e : Entry) → records (e ∷ []) ≤ length (spelled e)
-narrow (FloorAt t) = omega arith
-narrow (Silent k) = omega arith
-narrow (Record t c m a) = omega arith
+narrow e = grind arith
 
 module _ (n : ℕ) where
   -- an entry, and those of the words after it
@@ -53,3 +51,6 @@ after_first n ws e h = rw (take_rest ws (length (spelled e))) (first_begins n ws
 
 pub fewer_after : (n : ℕ) (ws : List ℕ) (e : Entry) → Some e ≡ slice_get (entries n (map word_of ws)) 0 → length (entries (n + records (e ∷ [])) (map word_of (between (length (spelled e)) (length ws) ws))) < length (entries n (map word_of ws))
 fewer_after n ws e h = let all = ap length (after_first n ws e h) in omega arith
+
+-- what is known of the first entry
+pub ruleset first_entry = (first_begins, after_first, fewer_after)

@@ -2,7 +2,6 @@
 -- What a body that passes says.
 use Rattle.std.proofs.Common.{◌≡◌, ℕ, zero, suc, ◌+◌, ◌<◌, ◌≤◌, true, false, List, [], ◌∷◌, map, take, Some, None, Option, Bool, sym, refl, ap, ◌∙◌, subst, add-zero, zero-add, arith}
 use Rattle.std.proofs.lemmas.Bool.Decides.{nat_tests}
-use Rattle.std.proofs.lemmas.Bool.{ltb-false}
 use Rattle.std.specs.List.{slice_get}
 use Rattle.post_log.specs.declared.class.Class.{Class}
 use Rattle.post_log.specs.declared.entry.Entry.{Entry}
@@ -10,7 +9,6 @@ use Rattle.post_log.specs.declared.entry.Entry.TheVariants.{Record, Floor as Flo
 use Rattle.post_log.specs.declared.judge.Progress.{Progress}
 use Rattle.post_log.specs.declared.word.Word.{Word}
 use Rattle.post_log.specs.declared.word.Word.TheVariants.{Floor, Head, Silence, Data}
-use Rattle.post_log.specs.Classes.{rank}
 use Rattle.post_log.specs.Entries.{entries, entries_of, spelling, records, NotAbove, Told}
 use Rattle.post_log.specs.Words.{word_of, bits, Narrow}
 use Rattle.post_log.specs.Verdict.{below, reached, passed, start, body_verdict, data_next}
@@ -36,23 +34,13 @@ abbrev AtLeast : Option Class → Option Class → Type 0
 AtLeast o q = (c : Class) → below c o ≡ false → below c q ≡ false
 
 lower : (t u : ℕ) (o q : Option Class) → t ≤ u → (t ≡ u → AtLeast q o) → (e : Entry) → NotBelow u q e → NotBelow t o e
-lower t u o q l top (FloorAt v) h = omega arith
-lower t u o q l top (Silent n) h = tt
-lower t u o q l top (Record v c n a) h =
-    (omega (arith, h.0), λ e. let both : (t ≡ u) × (u ≡ v) = (omega (arith, h.0), omega (arith, h.0)) in top both.0 c (h.1 both.1))
+lower t u o q l top e h = grind arith
 
 floor_above : (t : ℕ) (o : Option Class) (e : Entry) → NotBelow t o e → NotAbove (FloorAt t) e
-floor_above t o (FloorAt v) h = h
-floor_above t o (Silent n) h = tt
-floor_above t o (Record v c n a) h = h.0
+floor_above t o e h = grind arith
 
 record_above : (t n a : ℕ) (c : Class) (e : Entry) → NotBelow t (Some c) e → NotAbove (Record t c n a) e
-record_above t n a c (FloorAt v) h = h
-record_above t n a c (Silent m) h = tt
-record_above t n a c (Record v d m b) h = (h.0, λ same. ltb-false (rank d) (rank c) (h.1 same))
-
-silence_above : (n : ℕ) (e : Entry) → NotAbove (Silent n) e
-silence_above n e = tt
+record_above t n a c e h = grind (arith, nat_tests)
 
 -- Entries from an instant and a class on.
 record From (t : ℕ) (o : Option Class) (es : List Entry) : Type 0 where
@@ -97,9 +85,7 @@ abbrev Counted : ℕ → List Entry → Type 0
 Counted n es = (k t m a : ℕ) (c : Class) → slice_get es k ≡ Some (Record t c m a) → m ≡ n + records (take k es)
 
 records_cons : (e : Entry) (es : List Entry) → records (e ∷ es) ≡ records (e ∷ []) + records es
-records_cons (FloorAt t) es = sym (zero-add (records es))
-records_cons (Silent n) es = sym (zero-add (records es))
-records_cons (Record t c n a) es = refl
+records_cons e es = grind arith
 
 counted_cons : (n : ℕ) (e : Entry) (es : List Entry) → ((t m a : ℕ) (c : Class) → e ≡ Record t c m a → m ≡ n) → Counted (n + records (e ∷ [])) es → Counted n (e ∷ es)
 counted_cons n e es own rest zero t m a c h = let k = own t m a c (cc) in omega arith
@@ -111,8 +97,7 @@ record Tells (p : Progress) (n : ℕ) (ws : List Word) : Type 0 where
   counted : Counted n (entries n ws)
 
 not_below_on : (c d : Class) (o : Option Class) → below c o ≡ false → below d (Some c) ≡ false → below d o ≡ false
-not_below_on c d None l m = refl
-not_below_on c d (Some b) l m = grind (arith, nat_tests)
+not_below_on c d o l m = grind (arith, nat_tests)
 
 -- an instant that is not new keeps its class
 class_kept : (p : Progress) (t : ℕ) (h : Bool) → p.instant ≡ t → (reached t h p).class ≡ p.class
@@ -134,7 +119,7 @@ passing_tells p n (Silence k ∷ ws) h v =
     let r = passing_tells q n ws refl (at_silence p ws k v) in
     record {
       whole = ap (λ us. Silence k ∷ us) r.whole;
-      from = from_cons p.instant p.instant p.class p.class (Silent k) (entries n ws) (omega arith) (λ _ _ x. x) tt (λ e _. silence_above k e) r.from;
+      from = from_cons p.instant p.instant p.class p.class (Silent k) (entries n ws) (omega arith) (λ _ _ x. x) tt (λ _ _. tt) r.from;
       counted = counted_cons n (Silent k) (entries n ws) (λ u m a c e. cc) (subst (λ k. Counted k (entries n ws)) (sym (add-zero n)) r.counted);
     }
 passing_tells p n (Data None a ∷ ws) h v = cc

@@ -1,6 +1,6 @@
 -- SPDX-License-Identifier: MIT OR Apache-2.0
 -- What the progress of a judgement says of the places that it has passed, and what one more word does to it.
-use Rattle.std.proofs.Common.{◌≡◌, ℕ, zero, suc, ◌+◌, ◌<◌, ◌≤◌, Bool, true, false, eqb, ◌⊎◌, List, Some, None, Option, sym, subst, inl, inr, arith}
+use Rattle.std.proofs.Common.{◌≡◌, ℕ, suc, ◌+◌, ◌<◌, ◌≤◌, Bool, true, false, eqb, ◌⊎◌, List, Some, None, Option, sym, subst, inl, inr, arith}
 use Rattle.std.proofs.lemmas.Bool.{cases_lt, eqb-true, ltb-true, cond_both}
 use Rattle.std.proofs.lemmas.Bool.Decides.{nat_tests}
 use Rattle.std.specs.List.{slice_get}
@@ -39,24 +39,18 @@ module _ (ws : List Word) where
     pub no_head : p.headed ≡ false → (t : ℕ) → before ws i ≡ Some (Head t) → ⊥
 
   one_instant : (i t u : ℕ) → Timed ws i t → Timed ws i u → t ≡ u
-  one_instant i t u (inl a) (inl b) = cc
-  one_instant i t u (inl a) (inr b) = cc
-  one_instant i t u (inr a) (inl b) = cc
-  one_instant i t u (inr a) (inr b) = cc
+  one_instant i t u a b = grind arith
 
   -- no record ends where a floor or a head stands
   timed_not_end : (i t u : ℕ) (c : Class) → Timed ws i t → Ends ws i u c → ⊥
-  timed_not_end i t u c (inl a) e = let f = e.2 in cc
-  timed_not_end i t u c (inr a) e = let f = e.2 in cc
+  timed_not_end i t u c a e = grind arith
 
   -- where a record ends, its head stands before
   end_timed : (i t : ℕ) (c : Class) → Ends ws i t c → (j : ℕ) × (j < i) × Timed ws j t
-  end_timed zero t c e = let f = e.1 in cc
-  end_timed (suc i) t c e = (i, omega arith, inr e.1)
+  end_timed i t c e = grind arith
 
   pub later : (i t : ℕ) (o : Option Class) → ClassMet i t o → ClassMet (suc i) t o
-  later i t None m = tt
-  later i t (Some c) m = (m.0, omega (arith, m.1), m.2)
+  later i t o m = grind arith
 
   module _ (i : ℕ) (p : Progress) (u : Upto i p) where
     -- an instant below the highest falls

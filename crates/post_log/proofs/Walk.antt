@@ -1,7 +1,9 @@
 -- SPDX-License-Identifier: MIT OR Apache-2.0
 -- The verdict on a body, by the rules of its places.
-use Rattle.std.proofs.Common.{◌≡◌, ℕ, suc, ◌+◌, ◌-◌, ◌<◌, ◌≤◌, Bool, true, false, cond, eqb, ltb, List, [], ◌∷◌, Some, None, Ok, Err, Option, Result, sym, refl, ap, ◌∙◌, subst, inl, inr, add-zero, zero-add, arith}
+use borrow.Author.Count.{below_none}
+use Rattle.std.proofs.Common.{◌≡◌, ℕ, suc, ◌+◌, ◌-◌, ◌≤◌, Bool, true, false, cond, eqb, ltb, List, [], ◌∷◌, Some, None, Ok, Err, Option, Result, sym, refl, ap, ◌∙◌, subst, inl, inr, add-zero, zero-add, arith}
 use Rattle.std.proofs.lemmas.Bool.{cases_lt, cond_both, ltb-true, ltb-false, eqb-true, eqb-false, both_ways}
+use Rattle.std.proofs.lemmas.Bool.Decides.{nat_tests}
 use Rattle.std.specs.List.{slice_get}
 use Rattle.post_log.specs.declared.class.Class.{Class}
 use Rattle.post_log.specs.declared.judge.Progress.{Progress}
@@ -12,7 +14,6 @@ use Rattle.post_log.specs.declared.word.Word.TheVariants.{Floor, Head, Silence, 
 use Rattle.post_log.specs.Classes.{rank}
 use Rattle.post_log.specs.Rules.{Timed, Ends, Fits, InPlace, Stands, StandsTo, FirstMisplaced, FirstFalling}
 use Rattle.post_log.specs.Verdict.{below, judged, timed, reached, passed, start, body_verdict, data_next}
-use Rattle.post_log.specs.Words.{is_data}
 use Rattle.post_log.proofs.Upto.{Upto, Within, later, falls, class_falls, reach, pass}
 
 -- a floor's or a head's instant
@@ -30,20 +31,15 @@ data_first (Silence n ∷ ws) z = cc
 data_first (Data c a ∷ ws) z = (c, a, refl)
 
 first_data : (ws : List Word) (c : Option Class) (a : ℕ) → slice_get ws 0 ≡ Some (Data c a) → data_next ws ≡ true
-first_data [] c a e = cc
-first_data (w ∷ ws) c a e = let same : w ≡ Data c a = cc in ap is_data same
+first_data ws c a e = grind arith
 
 -- a class that is not below the latest is above all that are within it
 over : (c : Class) (o : Option Class) → below c o ≡ false → (b : Class) → Within b o → rank b ≤ rank c
-over c None l b h = absurd h
-over c (Some d) l b h = let k = ltb-false (rank c) (rank d) l in omega arith
+over c o l b h = grind (arith, nat_tests)
 
 -- a verdict by the judgement of the first word
 abbrev going_on : List Word → Result Progress Refusal → Option Refusal
 going_on ws r = elim r [ Ok q ↦ body_verdict q ws | Err e ↦ Some e ]
-
-below_none : (j : ℕ) → j < 0 → ⊥
-below_none j h = omega arith
 
 module _ (ws : List Word) where
   -- the leftmost place that breaks a rule
@@ -73,8 +69,7 @@ module _ (ws : List Word) where
   placed_by i w e fits v x = let same : w ≡ v = cc in subst (Fits ws i) same fits
 
   untimed : (i : ℕ) (w : Word) → slice_get ws i ≡ Some w → instant_of w ≡ None → (t : ℕ) → Timed ws i t → ⊥
-  untimed i w e none t (inl x) = let same : w ≡ Floor t = cc in let k = ap instant_of same in cc
-  untimed i w e none t (inr x) = let same : w ≡ Head t = cc in let k = ap instant_of same in cc
+  untimed i w e none t x = grind arith
 
   module _ (i : ℕ) (p : Progress) (u : Upto ws i p) where
     -- a floor or a head
@@ -122,10 +117,10 @@ module _ (ws : List Word) where
   Rest i rest = (k : ℕ) → slice_get ws (i + k) ≡ slice_get rest k
 
   rest_first : (i : ℕ) (w : Word) (rest : List Word) → Rest i (w ∷ rest) → slice_get ws i ≡ Some w
-  rest_first i w rest r = subst (λ n. slice_get ws n ≡ Some w) (add-zero i) (r 0)
+  rest_first i w rest r = grind (arith, r 0)
 
   rest_after : (i : ℕ) (w : Word) (rest : List Word) → Rest i (w ∷ rest) → Rest (suc i) rest
-  rest_after i w rest r k = let e : i + suc k ≡ suc i + k = omega arith in subst (λ n. slice_get ws n ≡ slice_get rest k) e (r (suc k))
+  rest_after i w rest r k = grind (arith, r (suc k))
 
   followed : (i : ℕ) (rest : List Word) → Rest i rest → Followed i (data_next rest)
   followed i rest r =
@@ -143,15 +138,11 @@ module _ (ws : List Word) where
         | inr l ↦
             let e : i + (j - i) ≡ j = omega arith in
             let past : slice_get ws j ≡ None = subst (λ n. slice_get ws n ≡ None) e (r (j - i)) in
-            let empty : (w : Word) → slice_get ws j ≡ Some w → ⊥ = λ w x. cc in (
-              λ w x. absurd (empty w x),
-              record { instant = λ k t v b x y. elim y [ inl z ↦ absurd (empty (Floor v) z) | inr z ↦ absurd (empty (Head v) z) ]; class = λ k t c d b x y. absurd (empty (Data (Some d) y.0) y.2) },
-            )
+            (λ w x. cc, record { instant = λ k t v b x y. grind arith; class = λ k t c d b x y. let z = y.2 in cc })
       ]
 
   going : (i : ℕ) (rest : List Word) (r : Result Progress Refusal) → Steps i r → ((q : Progress) → Upto ws (suc i) q → Says (body_verdict q rest)) → Says (going_on rest r)
-  going i rest (Ok q) s k = k q s
-  going i rest (Err e) s k = s
+  going i rest r s k = grind (arith, k)
 
   pub walk : (i : ℕ) (p : Progress) (rest : List Word) → Upto ws i p → Rest i rest → Says (body_verdict p rest)
   walk i p [] u r = all_stand i u.stands r
@@ -165,10 +156,10 @@ begun : (ws : List Word) → Upto ws 0 start
 begun ws =
     record {
       place = refl;
-      stands = λ j h. absurd (below_none j h);
-      highest = λ j h. absurd (below_none j h);
+      stands = below_none (Stands ws);
+      highest = below_none (λ j. (t : ℕ) → Timed ws j t → t ≤ 0);
       met = inl refl;
-      class_highest = λ j h. absurd (below_none j h);
+      class_highest = below_none (λ j. (c : Class) → Ends ws j 0 c → Within c None);
       class_met = tt;
       head = λ z. cc;
       no_head = λ _ t x. cc;

@@ -1,7 +1,8 @@
 -- SPDX-License-Identifier: MIT OR Apache-2.0
 -- The verdict on a list of words is the one that the rules give.
-use Rattle.std.proofs.Common.{◌≡◌, ℕ, suc, ◌+◌, ◌≤◌, List, [], ◌∷◌, map, length, Some, None, Option, sym, refl, ap, subst, inl, inr, arith, MatchOption}
+use Rattle.std.proofs.Common.{◌≡◌, ℕ, suc, ◌+◌, ◌≤◌, List, [], ◌∷◌, map, length, Some, None, Option, sym, refl, ap, subst, arith, MatchOption}
 use Rattle.std.proofs.lemmas.Bool.{cases_order}
+use Rattle.std.specs.Option.{option_or}
 use Rattle.std.proofs.lemmas.Bool.Decides.{nat_tests}
 use Rattle.post_log.specs.declared.refusal.Refusal.{Refusal}
 use Rattle.post_log.specs.declared.refusal.Refusal.TheVariants.{TooShort, BadHeader, BadCount, Misplaced, Falling}
@@ -26,11 +27,7 @@ module _ (h n : ℕ) (body : List ℕ) (headed : Headed h n body) where
   by_body (Some (Misplaced q)) s = subst (Refused (h ∷ n ∷ body) 4) (sym s.1) (misplaced {i = s.0} headed s.2)
   by_body (Some (Falling q)) s = subst (Refused (h ∷ n ∷ body) 5) (sym s.1) (falling {i = s.0} headed s.2)
 
--- the verdict on a header, and else on the words after it
-abbrev going_on : List ℕ → Option Refusal → Option Refusal
-going_on ws v = elim v [ None ↦ body_verdict start (map word_of ws) | Some e ↦ Some e ]
-
-by_header : (h n : ℕ) (ws : List ℕ) (v : Option Refusal) → v ≡ header_verdict h n (length ws) → Ruled (h ∷ n ∷ ws) (going_on ws v)
+by_header : (h n : ℕ) (ws : List ℕ) (v : Option Refusal) → v ≡ header_verdict h n (length ws) → Ruled (h ∷ n ∷ ws) (option_or v (body_verdict start (map word_of ws)))
 by_header h n ws None e =
     let headed : HeaderWord h × (n ≡ length ws) × (n ≤ 16382) = grind (arith, nat_tests) in
     by_body h n ws (headed.0, record { count = headed.1; few = headed.2 }) (body_verdict start (map word_of ws)) (says (map word_of ws))
@@ -38,9 +35,7 @@ by_header h n ws (Some BadHeader) e = bad_header (λ x. grind (arith, nat_tests)
 by_header h n ws (Some BadCount) e =
     let head : HeaderWord h = grind (arith, nat_tests) in
     bad_count head (λ x. let count = x.count in let few = x.few in grind (arith, nat_tests))
-by_header h n ws (Some TooShort) e = grind (arith, nat_tests)
-by_header h n ws (Some (Misplaced q)) e = grind (arith, nat_tests)
-by_header h n ws (Some (Falling q)) e = grind (arith, nat_tests)
+by_header h n ws (Some r) e = grind (arith, nat_tests)
 
 ruled : (ws : List ℕ) → Ruled ws (verdict ws)
 ruled [] = no_word
@@ -49,8 +44,7 @@ ruled (h ∷ n ∷ body) = by_header h n body (header_verdict h n (length body))
 
 -- two leftmost places that break a rule are one
 one_place : (ws : List Word) (i j : ℕ) → StandsTo ws i → StandsTo ws j → (Stands ws i → ⊥) → (Stands ws j → ⊥) → i ≡ j
-one_place ws i j low lower a b =
-    elim (cases_order i j) [ inl e ↦ e | inr r ↦ elim r [ inl l ↦ absurd (a (lower i l)) | inr l ↦ absurd (b (low j l)) ] ]
+one_place ws i j low lower a b = grind (arith, cases_order i j)
 
 -- the rules give one refusal at most
 one_refusal : {ws : List ℕ} {n p m q : ℕ} → Refused ws n p → Refused ws m q → (n ≡ m) × (p ≡ q)
@@ -87,14 +81,13 @@ unrefused l (misplaced {i = i} h a) = a.1 (l.1 i).0
 unrefused l (falling {i = i} h a) = a.2 (l.1 i).1
 
 decided_from : (ws : List ℕ) (v : Option Refusal) → Ruled ws v → Decided ws v
-decided_from ws None l = record { ruled = l; accepted = λ _. refl; refused = λ n p r. unrefused l r }
-decided_from ws (Some e) r = record { ruled = r; accepted = λ l. absurd (unrefused l r); refused = λ n p q. one_refusal r q }
+decided_from ws v r = grind (arith, unrefused, one_refusal)
 
 pub decided_as : (ws : List ℕ) (v : Option Refusal) → v ≡ verdict ws → Decided ws v
 decided_as ws v e = subst (Decided ws) (sym e) (decided_from ws (verdict ws) (ruled ws))
 
 pub none_from_passes : (ws : List ℕ) → Passes ws → None ≡ verdict ws
-none_from_passes ws h = grind arith
+none_from_passes ws h = sym h
 
 pub lawful_from_passes : (ws : List ℕ) → Passes ws → Lawful ws
 lawful_from_passes ws h = subst (Ruled ws) (sym (none_from_passes ws h)) (ruled ws)

@@ -1,7 +1,7 @@
 -- SPDX-License-Identifier: MIT OR Apache-2.0
 -- What the words of a log's body say. Assumes nothing.
-use Rattle.std.specs.Prelude.{◌≡◌, ℕ, ◌+◌, ◌<◌, ◌≤◌, List, [], ◌∷◌, ◌++◌, map, length, take, drop, Some, None, Option}
-use Rattle.std.specs.List.{AllByRecursion, slice_get}
+use Rattle.std.specs.Prelude.{◌≡◌, ℕ, ◌+◌, ◌<◌, ◌≤◌, List, [], ◌∷◌, map, length, take, drop, Some, None, Option}
+use Rattle.std.specs.List.{AllByRecursion, flat_map, slice_get}
 use Rattle.post_log.specs.declared.class.Class.{Class}
 use Rattle.post_log.specs.declared.entry.Entry.{Entry}
 use Rattle.post_log.specs.declared.entry.Entry.TheVariants.{Record, Floor as FloorAt, Silence as Silent}
@@ -32,8 +32,7 @@ spelled (Record t c n a) = Head t ∷ Data (Some c) a ∷ []
 
 -- and of entries in turn
 abbrev pub spelling : List Entry → List Word
-spelling [] = []
-spelling (e ∷ es) = spelled e ++ spelling es
+spelling es = flat_map spelled es
 
 -- how many of them are records
 abbrev pub records : List Entry → ℕ

@@ -1,6 +1,7 @@
 -- SPDX-License-Identifier: MIT OR Apache-2.0
 -- How a list of words is judged, from the left. Assumes nothing.
-use Rattle.std.specs.Prelude.{◌≡◌, ℕ, ◌+◌, ◌/◌, Bool, true, false, cond, List, [], ◌∷◌, map, length, is_some, Some, None, Ok, Err, Option, Result, ◌==◌, nat_lt}
+use Rattle.std.specs.Prelude.{◌≡◌, ℕ, ◌+◌, ◌/◌, Bool, true, false, cond, List, [], ◌∷◌, map, length, Some, None, Ok, Err, Option, Result, ◌==◌, nat_lt}
+use Rattle.std.specs.Option.{option_or}
 use Rattle.post_log.specs.declared.class.Class.{Class}
 use Rattle.post_log.specs.declared.judge.Progress.{Progress}
 use Rattle.post_log.specs.declared.refusal.Refusal.{Refusal}
@@ -63,8 +64,8 @@ header_verdict h n len =
 abbrev pub verdict : List ℕ → Option Refusal
 verdict [] = Some TooShort
 verdict (h ∷ []) = Some TooShort
-verdict (h ∷ n ∷ body) = elim (header_verdict h n (length body)) [ None ↦ body_verdict start (map word_of body) | Some e ↦ Some e ]
+verdict (h ∷ n ∷ body) = option_or (header_verdict h n (length body)) (body_verdict start (map word_of body))
 
 -- the words are not refused
 abbrev pub Passes : List ℕ → Type 0
-Passes ws = is_some (verdict ws) ≡ false
+Passes ws = verdict ws ≡ None

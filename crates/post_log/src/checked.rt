@@ -1,5 +1,5 @@
 // SPDX-License-Identifier: MIT OR Apache-2.0
-// A list of words that is known to be a log, and the check that it is one.
+//! A list of words that is known to be a log, and the check that it is one.
 ghost use Rattle.std.specs.Prelude.{◌≡◌, [], ◌∷◌, MatchResult, OnOk};
 ghost use Rattle.std.specs.Result.{result_err};
 ghost use Rattle.post_log.specs.Entries.{entries_of, Told};
@@ -12,7 +12,7 @@ use crate::entries::Entries;
 use crate::judge::judge_log;
 use crate::refusal::Refusal;
 
-// Not `Copy`: whoever a log is handed on to has it alone.
+/// Words that are a log. Not `Copy`: whoever a log is handed on to has it alone.
 #[derive(Debug, Drop)]
 pub struct CheckedLog<'a> {
     words: &'a [u32],
@@ -21,7 +21,7 @@ pub struct CheckedLog<'a> {
 }
 
 impl<'a> CheckedLog<'a> {
-    // A log of post 0 with no body, for `check` to fill.
+    /// A log of post 0 with no body, for `check` to fill.
     pub fn empty() -> Self
         ensures { result.words.now ≡ 0xC000_0000 ∷ 0 ∷ [] }
     {
@@ -30,20 +30,20 @@ impl<'a> CheckedLog<'a> {
         }
     }
 
-    // Does nothing: its contract is what every checked log is.
+    /// Does nothing: its contract is what every checked log is.
     pub fn meaning(&self)
         ensures lawful { Lawful self.now.words.now }
         ensures told { Told (body self.now.words.now) }
     {}
 
-    // The post that wrote the log, 0 to 1,023.
+    /// The post that wrote the log, 0 to 1,023.
     pub fn post(&self) -> u32
         ensures { result ≡ post self.now.words.now }
     {
         self.words[0] % 0x400
     }
 
-    // What the words say.
+    /// What the words say.
     pub fn entries(&self) -> Entries<'a>
         ensures { shown result ≡ entries_of (body self.now.words.now) }
     {
@@ -53,14 +53,14 @@ impl<'a> CheckedLog<'a> {
         }
     }
 
-    // The caller's words.
+    /// The caller's words.
     pub fn words(&self) -> &'a [u32]
         ensures { result ≡ self.now.words }
     {
         self.words
     }
 
-    // The caller's words, for the log.
+    /// The caller's words, for the log.
     pub fn into_words(self) -> &'a [u32]
         ensures held { result ≡ self.entry.words }
         ensures passes { Passes result.now }
@@ -72,6 +72,7 @@ impl<'a> CheckedLog<'a> {
     }
 }
 
+// The check: a log of the words, or why they are none.
 impl<'a> TryFrom<&'a [u32]> for CheckedLog<'a> {
     ghost use Rattle.post_log.specs.Checks.{Checks};
 
@@ -86,7 +87,7 @@ impl<'a> TryFrom<&'a [u32]> for CheckedLog<'a> {
     }
 }
 
-// Fills `into` with the words if they are a log, and else leaves it as it was.
+/// Fills `into` with the words if they are a log, and else leaves it as it was.
 pub fn check<'a>(words: &'a [u32], into: &mut CheckedLog<'a>) -> Result<(), Refusal>
     // the refusal that the judgement from the left comes to, if any
     ensures value { result_err result ≡ verdict words.now }

@@ -1,5 +1,5 @@
 // SPDX-License-Identifier: MIT OR Apache-2.0
-// What a record tells of.
+//! What a record tells of.
 ghost use Rattle.std.specs.Prelude.{◌≡◌, Some};
 ghost use Rattle.std.specs.Ordering.{nat_cmp};
 ghost use Rattle.post_log.specs.declared.class.Class.{Class as ClassValue};
@@ -8,7 +8,7 @@ ghost use Rattle.post_log.specs.Classes.{code, rank, Decodes, unknown};
 use std::error::Error;
 use std::fmt;
 
-// In the order in which the records of one instant stand.
+/// In the order in which the records of one instant stand.
 #[derive(Clone, Copy, Debug, PartialEq, Eq, PartialOrd, Ord)]
 pub enum Class {
     Tariff,
@@ -17,16 +17,17 @@ pub enum Class {
 }
 
 impl Class {
-    // The class that comes first among the records of one instant.
+    /// The class that comes first among the records of one instant.
     pub const FIRST: Class = Class::Tariff;
 
-    // Does nothing: its contract is how classes compare.
+    /// Does nothing: its contract is how classes compare, and that no two have one rank.
     pub fn meaning()
-        ensures { (c d : ClassValue) → ⟦<Class as Ord>⟧.cmp c d ≡ nat_cmp (rank c) (rank d) }
+        ensures by_rank { (c d : ClassValue) → ⟦<Class as Ord>⟧.cmp c d ≡ nat_cmp (rank c) (rank d) }
+        ensures apart { (c d : ClassValue) → rank c ≡ rank d → c ≡ d }
     {}
 }
 
-// A code that no class has.
+/// A code that no class has.
 #[derive(Clone, Copy, Debug, PartialEq, Eq)]
 pub struct UnknownClass(pub u32);
 

@@ -1,13 +1,14 @@
 // SPDX-License-Identifier: MIT OR Apache-2.0
-// The entries of a log that are still to be read, one after the other.
+//! The entries of a log that are still to be read, one after the other.
 ghost use Rattle.std.specs.Prelude.{◌+◌, ◌≤◌, length};
 
 use crate::entry::Entry;
 
-#[derive(Drop)]
+/// What the unread words of a log say.
+#[derive(Debug, Drop)]
 pub struct Entries<'a> {
     pub(crate) unread: &'a [u32],
-    // of the next record
+    /// of the next record
     pub(crate) number: u32,
     ghost few: { number + length unread.now ≤ 16382 },
 }
@@ -22,7 +23,7 @@ impl<'a> Iterator for Entries<'a> {
 
     ghost remaining = { λ s. at_most (length (shown s)) };
 
-    #[tactic(auto, using(crate::proofs::Reading::first_begins, crate::proofs::Reading::after_first, crate::proofs::Reading::fewer_after))]
+    #[tactic(auto, using(crate::proofs::Reading::first_entry))]
     fn next(&mut self) -> Option<Entry> {
         let entry = Entry::first(self.unread, self.number)?;
         self.number += entry.records();

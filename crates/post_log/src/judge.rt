@@ -1,5 +1,5 @@
 // SPDX-License-Identifier: MIT OR Apache-2.0
-// The check of a log.
+//! How a list of words is judged, from the left.
 ghost use Rattle.std.specs.Prelude.{◌≡◌, ◌^◌, ◌<◌, ◌≤◌, map, length};
 ghost use Rattle.std.specs.Result.{result_err};
 ghost use Rattle.post_log.specs.Verdict.{judged, start, reached, passed, header_verdict, body_verdict, verdict, data_next};
@@ -9,22 +9,22 @@ use crate::class::Class;
 use crate::refusal::Refusal;
 use crate::word::Word;
 
-// Bits 31 to 10 of a log's first word.
+/// Bits 31 to 10 of a log's first word.
 const HEADER: u32 = 0x30_0000;
 
-// The most words that a body has.
+/// The most words that a body has.
 const MOST: u32 = 16_382;
 
-// How far a body is judged.
+/// How far a body is judged.
 #[derive(Clone, Copy)]
-pub struct Progress {
-    // the place of the next word, counted from the log's first
+struct Progress {
+    /// the place of the next word, counted from the log's first
     place: usize,
-    // of the latest floor or record, at first 0
+    /// of the latest floor or record, at first 0
     instant: u32,
-    // of the latest record, if that record has this instant
+    /// of the latest record, if that record has this instant
     class: Option<Class>,
-    // whether the word before is a record's head
+    /// whether the word before is a record's head
     headed: bool,
 }
 
@@ -40,7 +40,7 @@ impl Progress {
         }
     }
 
-    // One word further, at the same instant.
+    /// One word further, at the same instant.
     fn pass(self, class: Option<Class>) -> Progress
         requires { self.place < 2 ^ 32 }
         ensures { result ≡ passed class self }
@@ -53,7 +53,7 @@ impl Progress {
         }
     }
 
-    // One word further, at an instant; a new one has no record yet.
+    /// One word further, at an instant; a new one has no record yet.
     fn reach(self, instant: u32, headed: bool) -> Progress
         requires { self.place < 2 ^ 32 }
         ensures { result ≡ reached instant headed self }
@@ -66,7 +66,7 @@ impl Progress {
         }
     }
 
-    // Judges a word, by whether a data word follows it.
+    /// Judges a word, by whether a data word follows it.
     fn judge(self, word: Word, followed: bool) -> Result<Progress, Refusal>
         requires { self.place < 2 ^ 32 }
         ensures { result ≡ judged word followed self }
@@ -90,7 +90,7 @@ impl Progress {
     }
 }
 
-// Whether the words begin with data.
+/// Whether the words begin with data.
 fn data_next(words: &[u32]) -> bool
     ensures { result ≡ data_next (map word_of words.now) }
 {
@@ -99,7 +99,7 @@ fn data_next(words: &[u32]) -> bool
         .is_some_and(|&bits| Word::from(bits).is_data())
 }
 
-// Judges the words of a body from the left.
+/// Judges the words of a body from the left.
 fn judge_body(words: &[u32]) -> Result<(), Refusal>
     requires { length words.now ≤ 16382 }
     ensures { result_err result ≡ body_verdict start (map word_of words.now) }
@@ -113,7 +113,7 @@ fn judge_body(words: &[u32]) -> Result<(), Refusal>
     Ok(())
 }
 
-// Judges the first two words, before a body of some length.
+/// Judges the first two words, before a body of some length.
 fn judge_header(head: u32, count: u32, len: usize) -> Result<(), Refusal>
     ensures { result_err result ≡ header_verdict head count len }
 {
@@ -126,7 +126,7 @@ fn judge_header(head: u32, count: u32, len: usize) -> Result<(), Refusal>
     Ok(())
 }
 
-// Why the words are no log, if they are none.
+/// Why the words are no log, if they are none.
 pub(crate) fn judge_log(words: &[u32]) -> Result<(), Refusal>
     ensures { result_err result ≡ verdict words.now }
 {

@@ -1,5 +1,5 @@
 // SPDX-License-Identifier: MIT OR Apache-2.0
-// The words of a charging post's log, and the check that a list of words is a lawful log.
+//! The words of a charging post's log, and the check that a list of words is a lawful log.
 #![tactic(auto)]
 
 mod checked;

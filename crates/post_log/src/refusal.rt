@@ -1,26 +1,28 @@
 // SPDX-License-Identifier: MIT OR Apache-2.0
-// Why a list of words is no log.
+//! Why a list of words is no log.
 ghost use Rattle.std.specs.Prelude.{◌≡◌, Some};
 ghost use Rattle.post_log.specs.Refusals.{number, place, message};
 
 use std::error::Error;
 use std::fmt;
 
+/// What is wrong, and at which word of the body.
 #[derive(Clone, Copy, Debug, PartialEq, Eq)]
 pub enum Refusal {
-    // fewer than two words
+    /// fewer than two words
     TooShort,
-    // the first word is no header
+    /// the first word is no header
     BadHeader,
-    // the second word is not the number of words in the body, or is above its limit
+    /// the second word is not the number of words in the body, or is above its limit
     BadCount,
-    // a word that cannot stand where it stands
+    /// a word that cannot stand where it stands
     Misplaced { at: usize },
-    // an instant or a class that falls
+    /// an instant or a class that falls
     Falling { at: usize },
 }
 
 impl Refusal {
+    /// The number of this kind of refusal.
     pub fn number(self) -> u32
         ensures { result ≡ number self }
     {
@@ -33,7 +35,7 @@ impl Refusal {
         }
     }
 
-    // The place of the word that is refused, counted from the log's first.
+    /// The place of the word that is refused, counted from the log's first.
     pub fn place(self) -> usize
         ensures { result ≡ place self }
     {

@@ -1,19 +1,20 @@
 // SPDX-License-Identifier: MIT OR Apache-2.0
-// A word of a log's body, taken apart by its kind, which is its two highest bits.
+//! A word of a log's body, taken apart by its kind, which is its two highest bits.
 ghost use Rattle.std.specs.Prelude.{◌≡◌};
 ghost use Rattle.post_log.specs.Words.{word_of, is_data};
 
 use crate::class::Class;
 
+/// What the 32 bits of a word say.
 #[derive(Clone, Copy, Debug, PartialEq, Eq)]
 pub enum Word {
-    // a floor: no floor or record after it has a lower instant
+    /// a floor: no floor or record after it has a lower instant
     Floor { instant: u32 },
-    // the head of a record, whose data word follows
+    /// the head of a record, whose data word follows
     Head { instant: u32 },
-    // a silence: for how many polls the post does not answer
+    /// a silence: for how many polls the post does not answer
     Silence { polls: u32 },
-    // the data of a record; class 3 is none
+    /// the data of a record; class 3 is none
     Data { class: Option<Class>, amount: u32 },
 }
 
