@@ -1,13 +1,12 @@
 -- SPDX-License-Identifier: MIT OR Apache-2.0
 -- A calendar is a stream, and its records are within their limits.
-use Rattle.std.proofs.Common.{◌≡◌, ℕ, zero, suc, ◌+◌, ◌-◌, ◌*◌, ◌%◌, ◌<◌, ◌≤◌, cond, eqb, ltb, [], ◌∷◌, Some, None, Option, sym, refl, ap, subst, arith}
+use Rattle.std.proofs.Common.{◌≡◌, ℕ, zero, suc, ◌+◌, ◌-◌, ◌*◌, ◌%◌, ◌<◌, ◌≤◌, eqb, [], ◌∷◌, Option, sym, ap, subst, arith}
 use Rattle.std.proofs.lemmas.Nat.{mul-le}
-use Rattle.std.proofs.lemmas.Bool.{ltb-true, ltb-false, eqb-false, cond_both}
+use Rattle.std.proofs.lemmas.Bool.{cond_both}
+use Rattle.std.proofs.lemmas.Bool.Decides.{nat_tests}
 use Rattle.ordered_stream.specs.declared.answer.Answer.{Answer}
-use Rattle.ordered_stream.specs.declared.answer.Answer.TheVariants.{Item, NoneBefore, Terminated}
 use Rattle.std.specs.List.{AllByRecursion}
 use Rattle.ordered_stream.specs.Meaning.{InTurn, HandsInTurn, Spends, Tells, NoneBelow, Lower}
-use Rattle.ordered_stream.specs.Orders.{reaches}
 use Rattle.ordered_stream.specs.Streams.{IsStream}
 use Rattle.ordered_stream.proofs.Orders.{not_below}
 use Rattle.ordered_stream.proofs.Positions.{position_spends, position_tells}
@@ -34,9 +33,7 @@ none_from p i j (suc k) h =
 -- the last ordering handed out is above no record to come
 hint_low : (c : Calendar) → Lower slot_order (calendar_hint c) (calendar_records c)
 hint_low c =
-    cond_both (eqb c.done 0) None (Some (slot_at c.plan (c.done - 1))) (λ o. Lower slot_order o (calendar_records c))
-    (λ _. tt)
-    (λ i. none_from c.plan (c.done - 1) c.done (c.plan.count - c.done) (omega (arith, eqb-false c.done 0 i)))
+    grind (arith, nat_tests, none_from c.plan (c.done - 1) c.done (c.plan.count - c.done))
 
 -- an item is the first of the records to come
 next_first : (c : Calendar) → c.done < c.plan.count → calendar_records c ≡ (slot_at c.plan c.done, amount_at c.plan c.done) ∷ calendar_records (handed c)
@@ -59,13 +56,7 @@ step_follows : (c : Calendar) (b : Option Slot) → Follows c b (calendar_step c
 step_follows c b =
     let p = c.plan in
     let i = c.done in
-    let item : Answer Slot Amount × Calendar = (Item (slot_at p i) (amount_at p i), handed c) in
-    cond_both (reaches slot_order (calendar_hint c) b) (NoneBefore, c) (cond (ltb i p.count) item (Terminated, c)) (Follows c b)
-    (λ e. record { turns = refl; spends = position_spends Amount slot_order (calendar_hint c) b e 0; tells = position_tells slot_order slot_laws.total (calendar_hint c) b e (calendar_records c) (hint_low c) })
-    (λ _.
-    cond_both (ltb i p.count) item (Terminated, c) (Follows c b)
-    (λ e. record { turns = next_first c (ltb-true i p.count e); spends = omega arith; tells = none_from p i (i + 1) (p.count - (i + 1)) (omega arith) })
-    (λ e. record { turns = refl; spends = omega arith; tells = none_left c (ltb-false i p.count e) }))
+    grind (arith, nat_tests, position_spends Amount slot_order (calendar_hint c) b, position_tells {D = Amount} slot_order slot_laws.total (calendar_hint c) b, hint_low c, next_first c, none_from p i (i + 1) (p.count - (i + 1)), none_left c)
 
 follows : (c : Calendar) (b : Option Slot) (r : Answer Slot Amount) (d : Calendar) → CalendarAnswers c b r d → Follows c b (r, d)
 follows c b r d a = subst (Follows c b) (sym a) (step_follows c b)

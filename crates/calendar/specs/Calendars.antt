@@ -1,6 +1,6 @@
 -- SPDX-License-Identifier: MIT OR Apache-2.0
 -- What a calendar stands for, and what it answers. Assumes nothing.
-use Rattle.std.specs.Prelude.{◌≡◌, ℕ, ◌+◌, ◌-◌, Bool, cond, not, List, Some, None, Ok, Err, Option, Result, ◌==◌, nat_lt}
+use Rattle.std.specs.Prelude.{◌≡◌, ℕ, ◌+◌, ◌-◌, Bool, cond, not, List, Some, None, Option, Result, MatchResult, ◌==◌, nat_lt}
 use Rattle.ordered_stream.specs.declared.answer.Answer.{Answer}
 use Rattle.ordered_stream.specs.declared.answer.Answer.TheVariants.{Item, NoneBefore, Terminated}
 use Rattle.ordered_stream.specs.Orders.{reaches}
@@ -59,5 +59,4 @@ pub record Opened (p : Plan) (c : Calendar) : Type 0 where
 
 -- It is made if the plan is within its limits, and else refused.
 abbrev pub Opens : Plan → Result Calendar PastLimit → Type 0
-Opens p (Ok c) = Opened p c
-Opens p (Err e) = Refuses e × (PlanWithin p → ⊥)
+Opens p r = MatchResult r (Opened p) (λ e. Refuses e × (PlanWithin p → ⊥))

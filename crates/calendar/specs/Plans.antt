@@ -1,7 +1,7 @@
 -- SPDX-License-Identifier: MIT OR Apache-2.0
 -- What a plan of tariffs may be, and its records. Assumes nothing.
-use Rattle.std.specs.Prelude.{◌≡◌, ℕ, zero, suc, ◌+◌, ◌-◌, ◌*◌, ◌%◌, ◌<◌, ◌≤◌, min, cond, List, [], ◌∷◌, ◌==◌}
-use Rattle.std.specs.List.{AllByRecursion}
+use Rattle.std.specs.Prelude.{◌≡◌, ℕ, ◌+◌, ◌-◌, ◌*◌, ◌%◌, ◌<◌, ◌≤◌, min, cond, List, map, ◌==◌}
+use Rattle.std.specs.List.{AllByRecursion, range_with_len}
 use Rattle.garage.specs.declared.amount.Amount.{Amount}
 use Rattle.garage.specs.declared.slot.Slot.{Slot}
 use Rattle.garage.specs.Limits.{InstantWithin, PostWithin, AmountWithin, RecordWithin}
@@ -37,8 +37,7 @@ amount_at p i = record { units = cond (i % 2 == 0) p.even p.odd }
 
 -- k records from record i on
 abbrev pub records_from : Plan → ℕ → ℕ → List (Slot × Amount)
-records_from p i zero = []
-records_from p i (suc k) = (slot_at p i, amount_at p i) ∷ records_from p (i + 1) k
+records_from p i k = map (λ j. (slot_at p j, amount_at p j)) (range_with_len i k)
 
 -- What a plan within its limits comes to: no instant is cut off at the top, and each record is within the limits.
 pub record AsPlanned (p : Plan) : Type 0 where

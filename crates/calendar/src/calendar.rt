@@ -1,5 +1,5 @@
 // SPDX-License-Identifier: MIT OR Apache-2.0
-// A plan of tariffs, some of whose records are handed out.
+//! A plan of tariffs, some of whose records are handed out.
 ghost use Rattle.ordered_stream.specs.Meaning.{HandsInTurn};
 ghost use Rattle.ordered_stream.specs.Streams.{IsStream};
 ghost use Rattle.garage.specs.Kinds.{slot_order};
@@ -9,16 +9,16 @@ use crate::plan::Plan;
 use garage::{Amount, PastLimit, Slot};
 use ordered_stream::{Answer, FusedOrderedStream, OrderedStream, reaches};
 
-// Not `Copy`: what it has handed out is not handed out again.
+/// A plan's records, handed out one at a time. Not `Copy`: what it has handed out is not handed out again.
 #[derive(Debug, Drop)]
 pub struct Calendar {
     plan: Plan,
-    // how many records are handed out
+    /// how many records are handed out
     done: u32,
 }
 
 impl Calendar {
-    // The calendar of a plan, from its first record on.
+    /// The calendar of a plan, from its first record on.
     #[tactic(auto, using(crate::proofs::Tariffs::as_planned))]
     pub fn new(plan: Plan) -> Result<Calendar, PastLimit>
         ensures { Opens plan result }
@@ -58,7 +58,7 @@ impl OrderedStream for Calendar {
         Answer::Item { ordering, datum }
     }
 
-    // The last ordering handed out.
+    /// The last ordering handed out.
     fn position_hint(&self) -> Option<Slot> {
         let last = self.done.checked_sub(1)?;
         Some(self.plan.slot(last))

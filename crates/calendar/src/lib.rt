@@ -1,5 +1,5 @@
 // SPDX-License-Identifier: MIT OR Apache-2.0
-// The changes of a garage's tariffs, as a stream.
+//! The changes of a garage's tariffs, as a stream.
 #![tactic(auto)]
 
 mod calendar;

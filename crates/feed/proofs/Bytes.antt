@@ -1,6 +1,7 @@
 -- SPDX-License-Identifier: MIT OR Apache-2.0
 -- The words in bytes, and the bytes in words.
-use Rattle.std.proofs.Common.{◌≡◌, ℕ, suc, ◌/◌, ◌%◌, ◌<◌, List, [], ◌∷◌, length, map, get_or, refl, arith}
+use Rattle.std.proofs.Common.{◌≡◌, ℕ, suc, zero, ◌/◌, ◌%◌, ◌<◌, List, [], ◌∷◌, length, map, get_or, refl, arith}
+use Rattle.std.proofs.lemmas.Nat.{be_bytes_4}
 use Rattle.std.specs.Simd.{first_chunks}
 use Rattle.feed.specs.Inputs.{word, words_of, spelled}
 
@@ -21,6 +22,12 @@ spelled_words (a ∷ []) h e = grind arith
 spelled_words (a ∷ b ∷ []) h e = grind arith
 spelled_words (a ∷ b ∷ c ∷ []) h e = grind arith
 spelled_words (a ∷ b ∷ c ∷ d ∷ bs) h e =
-    let w = word (a ∷ b ∷ c ∷ d ∷ []) in
-    let four : (w / 0x100_0000 ≡ a) × (w / 0x1_0000 % 0x100 ≡ b) × (w / 0x100 % 0x100 ≡ c) × (w % 0x100 ≡ d) = grind (arith, h 0, h 1, h 2, h 3) in
-    cc (spelled_words bs (λ i. h (suc (suc (suc (suc i))))) (omega (arith, e)))
+    let first = be_bytes_4 (a ∷ b ∷ c ∷ d ∷ []) (word (a ∷ b ∷ c ∷ d ∷ [])) refl (λ i. small i) refl in
+    cc (first, spelled_words bs (λ i. h (suc (suc (suc (suc i))))) (omega (arith, e)))
+  where
+    small : (i : ℕ) → get_or (a ∷ b ∷ c ∷ d ∷ []) i 0 < 256
+    small zero = h 0
+    small (suc zero) = h 1
+    small (suc (suc zero)) = h 2
+    small (suc (suc (suc zero))) = h 3
+    small (suc (suc (suc (suc i)))) = omega arith

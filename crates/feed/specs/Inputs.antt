@@ -1,10 +1,12 @@
 -- SPDX-License-Identifier: MIT OR Apache-2.0
 -- The words in bytes, and the logs in words. Assumes nothing.
-use Rattle.std.specs.Prelude.{ℕ, ◌+◌, ◌*◌, ◌/◌, ◌%◌, min, List, [], ◌∷◌, length, take, drop, slice_index}
+use Rattle.std.specs.Prelude.{ℕ, ◌+◌, min, List, [], ◌∷◌, length, take, drop}
+use Rattle.std.specs.Int.{from_be_bytes, to_be_bytes, w32}
+use Rattle.std.specs.List.{flat_map}
 
 -- the word in four bytes, the highest first
 abbrev pub word : List ℕ → ℕ
-word bs = slice_index bs 0 * 0x100_0000 + slice_index bs 1 * 0x1_0000 + slice_index bs 2 * 0x100 + slice_index bs 3
+word = from_be_bytes w32
 
 -- four bytes to a word
 abbrev pub words_of : List ℕ → List ℕ
@@ -16,8 +18,7 @@ words_of (a ∷ b ∷ c ∷ d ∷ bs) = word (a ∷ b ∷ c ∷ d ∷ []) ∷ wo
 
 -- the bytes of words, four each, the highest first
 abbrev pub spelled : List ℕ → List ℕ
-spelled [] = []
-spelled (w ∷ ws) = w / 0x100_0000 ∷ w / 0x1_0000 % 0x100 ∷ w / 0x100 % 0x100 ∷ w % 0x100 ∷ spelled ws
+spelled ws = flat_map (to_be_bytes w32) ws
 
 -- how many words the first log has: its header and the body that its second word names, or all that remains
 abbrev pub log_length : List ℕ → ℕ

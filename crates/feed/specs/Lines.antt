@@ -1,7 +1,7 @@
 -- SPDX-License-Identifier: MIT OR Apache-2.0
 -- The text of a listing. Assumes nothing.
 use Rattle.std.specs.Prelude.{ℕ, List, [], ◌∷◌, ◌++◌, Some, None, Option, codes, decimal}
-use Rattle.std.specs.List.{filter_map, flat_map}
+use Rattle.std.specs.List.{filter_map, flat_map, join_by}
 use Rattle.post_log.specs.declared.entry.Entry.{Entry}
 use Rattle.post_log.specs.declared.entry.Entry.TheVariants.{Floor, Silence, Record}
 use Rattle.post_log.specs.Classes.{code}
@@ -11,9 +11,7 @@ use Rattle.feed.specs.declared.line.Line.{Line}
 
 -- numbers in decimal, with single spaces between
 abbrev pub spaced : List ℕ → List ℕ
-spaced [] = []
-spaced (n ∷ []) = decimal n
-spaced (n ∷ m ∷ ns) = decimal n ++ (codes " " ++ spaced (m ∷ ns))
+spaced ns = join_by decimal (codes " ") ns
 
 abbrev pub line : Line → List ℕ
 line x = spaced (x.instant ∷ code x.class ∷ x.post ∷ x.number ∷ x.amount ∷ [])

@@ -1,5 +1,5 @@
 // SPDX-License-Identifier: MIT OR Apache-2.0
-// Why there is no listing.
+//! Why there is no listing.
 ghost use Rattle.std.specs.Prelude.{◌≡◌, Some};
 ghost use Rattle.feed.specs.declared.failure.Failure.TheVariants.{Refused, NoMemory};
 ghost use Rattle.feed.specs.Failures.{message};
@@ -9,15 +9,16 @@ use std::alloc::AllocError;
 use std::error::Error;
 use std::fmt;
 
+/// What is said in place of a listing.
 #[derive(Clone, Copy, Debug, PartialEq, Eq)]
 pub enum Failure {
-    // the log is none
+    /// the log is none
     Refused(Refusal),
-    // more bytes than are read
+    /// more bytes than are read
     TooLong,
-    // bytes that are no whole words
+    /// bytes that are no whole words
     NotWords,
-    // words after the first log
+    /// words after the first log
     MoreLogs,
     NoMemory,
 }

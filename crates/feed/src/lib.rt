@@ -1,5 +1,5 @@
 // SPDX-License-Identifier: MIT OR Apache-2.0
-// From bytes to a listing: what the program does, but for its reading and printing.
+//! From bytes to a listing: what the program does, but for its reading and printing.
 #![tactic(auto)]
 
 mod failure;

@@ -1,11 +1,12 @@
 // SPDX-License-Identifier: MIT OR Apache-2.0
-// A line of a listing.
+//! A line of a listing.
 ghost use Rattle.std.specs.Prelude.{◌≡◌, Some};
 ghost use Rattle.feed.specs.Lines.{line, line_of};
 
 use post_log::{Class, Entry};
 use std::fmt;
 
+/// A record as a listing prints it: numbers with single spaces between.
 #[derive(Clone, Copy, Debug, PartialEq, Eq)]
 pub struct Line {
     pub instant: u32,
@@ -16,7 +17,7 @@ pub struct Line {
 }
 
 impl Line {
-    // The line that a post's entry has: each record has one, and nothing else.
+    /// The line that a post's entry has: each record has one, and nothing else.
     pub fn of(post: u32, entry: Entry) -> Option<Line>
         ensures { result ≡ line_of post entry }
     {

@@ -1,5 +1,5 @@
 // SPDX-License-Identifier: MIT OR Apache-2.0
-// The listing of a log, and of the log in an input.
+//! The listing of a log, and of the log in an input.
 ghost use Rattle.std.specs.Prelude.{◌≡◌, string_bytes, MatchResult};
 ghost use Rattle.std.specs.Result.{result_map_both};
 ghost use Rattle.feed.specs.declared.failure.Failure.TheVariants.{NoMemory};
@@ -13,10 +13,10 @@ use post_log::CheckedLog;
 use std::alloc::Global;
 use std::fmt::Write;
 
-// The most bytes that are read.
+/// The most bytes that are read.
 pub const MOST_BYTES: usize = 65_536;
 
-// A line for each record, in turn.
+/// A line for each record, in turn.
 fn list_log(heap: Global, log: &CheckedLog) -> Result<String, Failure>
     ensures { MatchResult result (λ s. string_bytes s ≡ listing_of log.now.words.now) (λ f. f ≡ NoMemory) }
 {
@@ -29,7 +29,7 @@ fn list_log(heap: Global, log: &CheckedLog) -> Result<String, Failure>
     Ok(text)
 }
 
-// The listing of a log, unless words follow it.
+/// The listing of a log, unless words follow it.
 fn list_only(heap: Global, log: &CheckedLog, later: &[u32]) -> Result<String, Failure>
     ensures { Lists log.now.words.now later.now (result_map_both string_bytes (λ f. f) result) }
 {
@@ -39,7 +39,7 @@ fn list_only(heap: Global, log: &CheckedLog, later: &[u32]) -> Result<String, Fa
     list_log(heap, log)
 }
 
-// The listing of the one log in the bytes.
+/// The listing of the one log in the bytes.
 pub fn list(heap: Global, input: &[u8]) -> Result<String, Failure>
     ensures value { Gives input.now (result_map_both string_bytes (λ f. f) result) }
     ensures ruled { Ruled input.now (result_map_both string_bytes (λ f. f) result) }

@@ -1,6 +1,6 @@
 // SPDX-License-Identifier: MIT OR Apache-2.0
-// Lists a post's log: reads its words on standard input, four bytes each and the highest first, and prints a line for each
-// record, or why there is none.
+//! Lists a post's log: reads its words on standard input, four bytes each and the highest first, and prints a line for each
+//! record, or why there is none.
 #![tactic(auto)]
 
 use feed::{Failure, MOST_BYTES, list};

@@ -1,6 +1,6 @@
 // SPDX-License-Identifier: MIT OR Apache-2.0
-// A line of the input: a stream, and the bounds that it is polled under.
-use anyhow::{Context, bail, ensure};
+//! A line of the input: a stream, and the bounds that it is polled under.
+use anyhow::{Context, bail};
 use calendar::Plan;
 use garage::Slot;
 use post_log::Class;
@@ -9,57 +9,60 @@ use std::str::SplitWhitespace;
 
 #[derive(Debug, Drop)]
 pub(crate) enum Case {
-    // the words of a log
+    /// the words of a log
     Log(Vec<u32>),
-    // the same, its reader in an `Option`
+    /// the same, its reader in an `Option`
     Present(Vec<u32>),
-    // an `Option` with no reader
+    /// an `Option` with no reader
     Absent,
-    // the plan of a calendar
+    /// the plan of a calendar
     Tariffs(Plan),
 }
 
-fn number(text: Option<&str>) -> anyhow::Result<u32> {
-    Ok(text.context("a number is missing")?.parse()?)
+fn number(text: &str) -> anyhow::Result<u32> {
+    Ok(text.parse()?)
 }
 
-// A slot by its instant, class, post and number; a bound may be past the limits of a record's.
-fn slot(text: &str) -> anyhow::Result<Slot> {
-    let mut parts = text.split('.');
-    let slot = Slot {
-        instant: number(parts.next())?,
-        class: Class::try_from(number(parts.next())?)?,
-        post: number(parts.next())?,
-        number: number(parts.next())?,
+/// A slot by its instant, class, post and number; a bound may be past the limits of a record's.
+fn slot(heap: Global, text: &str) -> anyhow::Result<Slot> {
+    let parts: Vec<u32> = text.split('.').map(number).try_collect(heap)?;
+    let [instant, class, post, number] = *parts.as_slice() else {
+        bail!("no slot");
     };
-    ensure!(parts.next().is_none(), "more than a slot");
-    Ok(slot)
+    Ok(Slot {
+        instant,
+        class: Class::try_from(class)?,
+        post,
+        number,
+    })
 }
 
-fn bound(word: &str) -> anyhow::Result<Option<Slot>> {
+fn bound(heap: Global, word: &str) -> anyhow::Result<Option<Slot>> {
     match word {
         "-" => Ok(None),
-        _ => Ok(Some(slot(word)?)),
+        _ => Ok(Some(slot(heap, word)?)),
     }
 }
 
 fn log_words(heap: Global, words: SplitWhitespace<'_>) -> anyhow::Result<Vec<u32>> {
     words
-        .map(|word| -> anyhow::Result<u32> { Ok(u32::from_str_radix(word, 16)?) })
+        .map(|word| u32::from_str_radix(word, 16).map_err(anyhow::Error::from))
         .try_collect(heap)
 }
 
-fn tariffs(mut words: SplitWhitespace<'_>) -> anyhow::Result<Plan> {
-    let plan = Plan {
-        first: number(words.next())?,
-        step: number(words.next())?,
-        count: number(words.next())?,
-        even: number(words.next())?,
-        odd: number(words.next())?,
-        post: number(words.next())?,
+fn tariffs(heap: Global, words: SplitWhitespace<'_>) -> anyhow::Result<Plan> {
+    let parts: Vec<u32> = words.map(number).try_collect(heap)?;
+    let [first, step, count, even, odd, post] = *parts.as_slice() else {
+        bail!("no plan");
     };
-    ensure!(words.next().is_none(), "more than a plan");
-    Ok(plan)
+    Ok(Plan {
+        first,
+        step,
+        count,
+        even,
+        odd,
+        post,
+    })
 }
 
 fn stream(heap: Global, text: &str) -> anyhow::Result<Case> {
@@ -67,15 +70,18 @@ fn stream(heap: Global, text: &str) -> anyhow::Result<Case> {
     match words.next() {
         Some("log") => Ok(Case::Log(log_words(heap, words)?)),
         Some("some") => Ok(Case::Present(log_words(heap, words)?)),
-        Some("calendar") => Ok(Case::Tariffs(tariffs(words)?)),
+        Some("calendar") => Ok(Case::Tariffs(tariffs(heap, words)?)),
         Some("absent") if words.next().is_none() => Ok(Case::Absent),
         _ => bail!("no stream"),
     }
 }
 
-// The stream before the semicolon, and the bounds after it.
+/// The stream before the semicolon, and the bounds after it.
 pub(crate) fn parse(heap: Global, line: &str) -> anyhow::Result<(Case, Vec<Option<Slot>>)> {
     let (before, after) = line.split_once(';').context("no polls")?;
-    let polls = after.split_whitespace().map(bound).try_collect(heap)?;
+    let polls = after
+        .split_whitespace()
+        .map(|word| bound(heap, word))
+        .try_collect(heap)?;
     Ok((stream(heap, before)?, polls))
 }

@@ -1,5 +1,5 @@
 // SPDX-License-Identifier: MIT OR Apache-2.0
-// Streams and polls as lines on standard input: builds each stream, polls it, and prints its answers.
+//! Streams and polls as lines on standard input: builds each stream, polls it, and prints its answers.
 #![tactic(auto)]
 
 mod case;

@@ -1,5 +1,5 @@
 // SPDX-License-Identifier: MIT OR Apache-2.0
-// What a poll comes to: its answer, and what the stream tells of itself after it.
+//! What a poll comes to: its answer, and what the stream tells of itself after it.
 use crate::case::Case;
 use calendar::Calendar;
 use feed::Line;
@@ -10,9 +10,9 @@ use post_reader::Reader;
 use std::alloc::{AllocError, Global};
 use std::fmt::{self, Write};
 
-// A stream that may be one of words.
-trait Tried: FusedOrderedStream {
-    // How many words are not read yet.
+/// A stream that may be one of words.
+trait Tried: FusedOrderedStream + OrderedStream<Ordering = Slot, Data = Amount> {
+    /// How many words are not read yet.
     fn left(&self) -> Option<usize>;
 }
 
@@ -80,10 +80,7 @@ impl fmt::Display for Outcome {
     }
 }
 
-fn polled<S: Tried + OrderedStream<Ordering = Slot, Data = Amount>>(
-    stream: &mut S,
-    before: Option<Slot>,
-) -> Outcome {
+fn polled<S: Tried>(stream: &mut S, before: Option<Slot>) -> Outcome {
     let answer = stream.poll_next_before(before);
     Outcome {
         answer,
@@ -93,11 +90,12 @@ fn polled<S: Tried + OrderedStream<Ordering = Slot, Data = Amount>>(
     }
 }
 
-// What each poll comes to, in turn, or why there is no stream to poll.
-fn outcomes<
-    S: Tried + OrderedStream<Ordering = Slot, Data = Amount> + Drop,
-    E: fmt::Display + Drop,
->(heap: Global, stream: Result<S, E>, polls: &[Option<Slot>]) -> Result<String, AllocError> {
+/// What each poll comes to, in turn, or why there is no stream to poll.
+fn outcomes<S: Tried + Drop, E: fmt::Display + Drop>(
+    heap: Global,
+    stream: Result<S, E>,
+    polls: &[Option<Slot>],
+) -> Result<String, AllocError> {
     let mut stream = match stream {
         Ok(stream) => stream,
         Err(refusal) => return refusal.to_string(heap),
@@ -116,7 +114,7 @@ fn reader(words: &[u32]) -> Result<Reader<'_>, Refusal> {
     CheckedLog::try_from(words).map(Reader::new)
 }
 
-// What the polls of a case come to.
+/// What the polls of a case come to.
 pub(crate) fn line(
     heap: Global,
     case: &Case,

@@ -1,5 +1,5 @@
 // SPDX-License-Identifier: MIT OR Apache-2.0
-// What is made at the limits, how orderings compare, and what answers give.
+//! What is made at the limits, how orderings compare, and what answers give.
 ghost use Rattle.std.specs.Prelude.{◌/◌};
 
 use garage::{Amount, Instant, Line, Minute, PastLimit, Slot};
@@ -9,13 +9,14 @@ use post_log::Class;
 #[test]
 fn makes_nothing_past_a_limit(rt: HostRuntime) {
     let class = Class::PlugEvent;
+    let numbered = |past: PastLimit| (past.number(), past.value());
     let within = [
-        Slot::new(0x3FFF_FFFF, class, 1023, 0xF_FFFF).is_ok(),
-        Slot::least_of(0x3FFF_FFFF).is_ok(),
-        Amount::try_from(0x0FFF_FFFF).is_ok(),
-        Line::new(class, 1023, 0x0FFF_FFFF).is_ok(),
+        Slot::new(0x3FFF_FFFF, class, 1023, 0xF_FFFF).err(),
+        Slot::least_of(0x3FFF_FFFF).err(),
+        Amount::try_from(0x0FFF_FFFF).err(),
+        Line::new(class, 1023, 0x0FFF_FFFF).err(),
     ];
-    assert_eq!(rt; within, [true; 4]);
+    assert_eq!(rt; within.map(|past| past.map(numbered)), [None; 4]);
     let past = [
         Slot::new(0x4000_0000, class, 1023, 0xF_FFFF).err(),
         Slot::new(0x3FFF_FFFF, class, 1024, 0xF_FFFF).err(),
@@ -25,8 +26,7 @@ fn makes_nothing_past_a_limit(rt: HostRuntime) {
         Line::new(class, 1024, 0x0FFF_FFFF).err(),
         Line::new(class, 1023, 0x1000_0000).err(),
     ];
-    assert_eq!(rt; past, [Some(PastLimit); 7]);
-    assert_eq!(rt; (PastLimit.number(), PastLimit.value()), (6, 0));
+    assert_eq!(rt; past.map(|past| past.map(numbered)), [Some((6, 0)); 7]);
 }
 
 fn slot(instant: u32, class: Class, post: u32, number: u32) -> Slot {

@@ -5,17 +5,13 @@ use Rattle.std.specs.List.{AllByRecursion}
 use Rattle.std.proofs.lemmas.List.{nil_from_length}
 use Rattle.std.proofs.lemmas.Bool.{eqb-true}
 use Rattle.post_log.specs.declared.entry.Entry.{Entry}
-use Rattle.post_log.specs.declared.entry.Entry.TheVariants.{Floor, Silence, Record}
 use Rattle.post_log.specs.Entries.{entries, spelled, records, Sized, EachSized, Begins}
-use Rattle.post_log.specs.Words.{word_of, post}
+use Rattle.post_log.specs.Words.{word_of}
 use Rattle.post_reader.specs.declared.reader.Reader.{Reader}
-use Rattle.post_reader.specs.Reading.{records_of}
 use Rattle.post_reader.specs.Readers.{words_of, unread_of, all_read, reader_records, Next}
 
 some_word : (e : Entry) → 0 < length (spelled e)
-some_word (Floor t) = omega arith
-some_word (Silence k) = omega arith
-some_word (Record t c n a) = omega arith
+some_word e = grind arith
 
 -- what the unread words begin with, by the words of the reader
 pub next_by : EachSized → (r : Reader) (u : List ℕ) (e : Option Entry) → u ≡ unread_of r → Begins r.number u e → Next r e
@@ -32,5 +28,4 @@ next_by sized r u (Some e) same h =
 -- where no word is left, nothing is to come
 pub none_ahead : (r : Reader) → all_read r ≡ true → reader_records r ≡ []
 none_ahead r h =
-    let none : unread_of r ≡ [] = nil_from_length (unread_of r) (eqb-true (length (unread_of r)) 0 h) in
-    ap (λ l. records_of (post (words_of r)) (entries r.number (map word_of l))) none
+    grind (arith, eqb-true (length (unread_of r)) 0, nil_from_length (unread_of r))

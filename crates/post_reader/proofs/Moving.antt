@@ -1,10 +1,11 @@
 -- SPDX-License-Identifier: MIT OR Apache-2.0
 -- A poll hands records out in turn, and spends waits, whatever is ahead.
-use Rattle.std.proofs.Common.{◌≡◌, ◌+◌, eqb, List, [], ◌∷◌, Some, Option, sym, refl, ap, ◌∙◌, subst, arith}
-use Rattle.std.proofs.lemmas.Bool.{eqb-true, eqb-false, cond_both}
+use Rattle.std.proofs.Common.{◌≡◌, ◌+◌, List, [], ◌∷◌, Some, Option, sym, refl, ap, ◌∙◌, subst, arith}
+use Rattle.std.proofs.lemmas.Bool.{cond_both}
+use Rattle.std.proofs.lemmas.Bool.Decides.{nat_tests}
 use Rattle.std.specs.List.{AllByRecursion}
 use Rattle.ordered_stream.specs.declared.answer.Answer.{Answer}
-use Rattle.ordered_stream.specs.declared.answer.Answer.TheVariants.{NoneBefore, Pending}
+use Rattle.ordered_stream.specs.declared.answer.Answer.TheVariants.{NoneBefore}
 use Rattle.ordered_stream.specs.Meaning.{InTurn, Spends}
 use Rattle.ordered_stream.specs.Orders.{reaches}
 use Rattle.ordered_stream.proofs.Positions.{position_spends}
@@ -14,7 +15,7 @@ use Rattle.post_log.specs.Entries.{Sized}
 use Rattle.garage.specs.declared.amount.Amount.{Amount}
 use Rattle.garage.specs.declared.slot.Slot.{Slot}
 use Rattle.garage.specs.Kinds.{slot_order, least}
-use Rattle.post_reader.specs.Reading.{State, records_of, silences, records_in, waits_in, raised, past, past_floors, settled, waited, by_entry, answered, polled}
+use Rattle.post_reader.specs.Reading.{State, records_of, silences, records_in, waits_in, raised, past, past_floors, settled, by_entry, answered, polled}
 
 -- no floor is at the place
 abbrev pub NoFloor : List Entry → Type 0
@@ -44,30 +45,23 @@ floors_settle (Floor t ∷ es) s e =
       sized = λ h. r.sized (subst (AllByRecursion Sized) e h).1;
       front = r.front;
     }
-floors_settle (Silence k ∷ es) s e = stays s (subst NoFloor (sym e) tt)
+floors_settle (Silence k ∷ es) s e = stays s (rw e tt)
 floors_settle (Record t c n a ∷ es) s e = stays s (subst NoFloor (sym e) tt)
 
 pub settles : (s : State) → Settled s (settled s)
 settles s =
-    cond_both (eqb s.silence 0) (past_floors s.ahead s) s (Settled s)
-    (λ _. floors_settle s.ahead s refl)
-    (λ i. record { records = refl; waits = refl; sized = λ h. h; front = λ z. absurd (eqb-false s.silence 0 i z) })
+    let floors = floors_settle s.ahead s refl in grind (arith, nat_tests)
 
 -- an answer and a state, from a state
 abbrev pub Moves : State → Option Slot → Answer Slot Amount × State → Type 0
 Moves s b r = InTurn (records_in s) r.0 (records_in r.1) × Spends (waits_in s) b r.0 (waits_in r.1)
 
 entry_moves : (es : List Entry) (s : State) (b : Option Slot) → s.ahead ≡ es → s.silence ≡ 0 → AllByRecursion Sized es → Moves s b (by_entry es s)
-entry_moves [] s b e z l = (refl, omega arith)
-entry_moves (Floor t ∷ es) s b e z l = (refl, omega arith)
-entry_moves (Silence k ∷ es) s b e z l = (ap (records_of s.post) e, omega (arith, ap silences e, l.0))
-entry_moves (Record t c n a ∷ es) s b e z l = (ap (records_of s.post) e, omega (arith, ap silences e))
+entry_moves es s b e z l = grind (arith, ap (records_of s.post) e, ap silences e)
 
 answer_moves : (s : State) (b : Option Slot) → AllByRecursion Sized s.ahead → Moves s b (answered s)
 answer_moves s b l =
-    cond_both (eqb s.silence 0) (by_entry s.ahead s) (Pending, waited s) (Moves s b)
-    (λ i. entry_moves s.ahead s b refl (eqb-true s.silence 0 i) l)
-    (λ i. let some : s.silence ≡ 0 → ⊥ = eqb-false s.silence 0 i in (refl, omega arith))
+    grind (arith, nat_tests, entry_moves s.ahead s b refl)
 
 pub poll_moves : (s : State) (b : Option Slot) → AllByRecursion Sized s.ahead → Moves s b (polled b s)
 poll_moves s b l =

@@ -58,15 +58,11 @@ opened_sound ws told =
 records_up_to : (k : ℕ) (es : List Entry) → records (take k es) ≤ length (spelling es)
 records_up_to zero es = omega arith
 records_up_to (suc k) [] = omega arith
-records_up_to (suc k) (Floor t ∷ es) = omega (arith, records_up_to k es)
-records_up_to (suc k) (Silence q ∷ es) = omega (arith, records_up_to k es)
-records_up_to (suc k) (Record t c n a ∷ es) = omega (arith, records_up_to k es)
+records_up_to (suc k) (e ∷ es) = grind (arith, records_up_to k es)
 
 -- a log's words after its header are few
 few_in_body : (ws : List ℕ) → Lawful ws → length (drop 2 ws) ≤ 16382
-few_in_body [] l = absurd l
-few_in_body (h ∷ []) l = absurd l
-few_in_body (h ∷ n ∷ ws) l = omega (arith, l.0.1.count, l.0.1.few)
+few_in_body ws l = grind arith
 
 -- each record is within the limits, place by place
 all_within : (p : ℕ) → PostWithin p → (es : List Entry) → AllByRecursion Sized es → ((k t n a : ℕ) (c : Class) → slice_get es k ≡ Some (Record t c n a) → NumberWithin n) → AllByRecursion RecordWithin (records_of p es)
@@ -76,8 +72,8 @@ all_within p known (Silence q ∷ es) s h = all_within p known es s.1 (λ k. h (
 all_within p known (Record t c n a ∷ es) s h =
     ((record { instant = s.0.0; post = known; number = h 0 t n a c refl }, s.0.1), all_within p known es s.1 (λ k. h (suc k)))
 
-pub opened_within : EachSized → (ws : List ℕ) → Passes ws → Lawful ws → Told (body ws) → AllByRecursion RecordWithin (records_of (post ws) (entries_of (body ws)))
-opened_within sized ws passes lawful told =
+pub opened_within : EachSized → (p : ℕ) (ws : List ℕ) → PostWithin p → Passes ws → Lawful ws → Told (body ws) → AllByRecursion RecordWithin (records_of p (entries_of (body ws)))
+opened_within sized p ws known passes lawful told =
     let es = entries_of (body ws) in
     let words : length (spelling es) ≡ length (body ws) = sym (length-map (spelling es) bits) ∙ ap length told.whole in
-    all_within (post ws) (omega arith) es (sized ws passes 0 2) (λ k t n a c e. omega (arith, told.counted k t n a c e, records_up_to k es, words, few_in_body ws lawful))
+    all_within p known es (sized ws passes 0 2) (λ k t n a c e. omega (arith, told.counted k t n a c e, records_up_to k es, words, few_in_body ws lawful))

@@ -1,5 +1,5 @@
 // SPDX-License-Identifier: MIT OR Apache-2.0
-// A post's checked log, read as an ordered stream.
+//! A post's checked log, read as an ordered stream.
 #![tactic(auto)]
 
 mod reader;

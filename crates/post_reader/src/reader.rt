@@ -1,5 +1,5 @@
 // SPDX-License-Identifier: MIT OR Apache-2.0
-// A log that is partly read, and how it answers.
+//! A log that is partly read, and how it answers.
 ghost use Rattle.std.specs.Prelude.{◌≡◌, ◌+◌, ◌≤◌, length, drop};
 ghost use Rattle.post_reader.specs.Cases.{FloorAlone};
 
@@ -7,18 +7,18 @@ use garage::{Amount, Slot};
 use ordered_stream::{Answer, FusedOrderedStream, OrderedStream, reaches};
 use post_log::{CheckedLog, Entry};
 
-// Not `Copy`: what it has handed out is not handed out again.
+/// A log's records, handed out one at a time. Not `Copy`: what it has handed out is not handed out again.
 #[derive(Debug, Drop)]
 pub struct Reader<'a> {
-    // over the caller's words
+    /// over the caller's words
     log: CheckedLog<'a>,
-    // of the first word that is not read yet
+    /// of the first word that is not read yet
     place: usize,
-    // of the next record
+    /// of the next record
     number: u32,
-    // how many polls stay unanswered
+    /// how many polls stay unanswered
     silence: u32,
-    // no record to come has a lower slot
+    /// no record to come has a lower slot
     floor: Option<Slot>,
     ghost within: { place ≤ length log.words.now },
     // no record ahead has a number that runs over
@@ -34,7 +34,7 @@ impl<'a> Reader<'a> {
     ghost use Rattle.post_reader.specs.Reading.{opened, raised};
     ghost use Rattle.post_reader.specs.Readers.{unread_of, state_of, reader_records, all_read, ReaderSound, AtPlace, Next, Passed, FloorsPassed, ByEntry};
 
-    // Reads a log from its body's first word.
+    /// Reads a log from its body's first word.
     #[tactic(auto, using(crate::proofs::Opening::opened_sound, crate::proofs::Opening::opened_within))]
     pub fn new(log: CheckedLog<'a>) -> Self
         ensures words { result.log.words ≡ log.entry.words }
@@ -53,14 +53,14 @@ impl<'a> Reader<'a> {
         }
     }
 
-    // The words that are not read yet, a part of the caller's.
+    /// The words that are not read yet, a part of the caller's.
     pub fn unread(&self) -> &'a [u32]
         ensures { result.now ≡ unread_of self.now }
     {
         &self.log.words()[self.place..]
     }
 
-    // Whether every word is read; then nothing is to come.
+    /// Whether every word is read; then nothing is to come.
     #[tactic(auto, using(crate::proofs::Ahead::none_ahead))]
     fn all_read(&self) -> bool
         ensures value { result ≡ all_read self.now }
@@ -69,7 +69,7 @@ impl<'a> Reader<'a> {
         self.unread().is_empty()
     }
 
-    // The entry at the place.
+    /// The entry at the place.
     #[tactic(auto, using(crate::proofs::Ahead::next_by))]
     fn next_entry(&self) -> Option<Entry>
         ensures { Next self.now result }
@@ -78,16 +78,19 @@ impl<'a> Reader<'a> {
         Entry::first(self.unread(), self.number)
     }
 
-    // The greater of the floor and the least slot of an instant.
+    /// The greater of the floor and the least slot of an instant.
     fn raised(&self, instant: u32) -> Slot
         requires { InstantWithin instant }
         ensures { result ≡ raised self.now.floor (least instant) }
     {
         let least = Slot::least_of(instant).unwrap();
-        self.floor.map_or(least, |floor| floor.max(least))
+        match self.floor {
+            Some(floor) => floor.max(least),
+            None => least,
+        }
     }
 
-    // Passes the entry at the place.
+    /// Passes the entry at the place.
     fn pass(&mut self, entry: Entry)
         requires { AtPlace self.old entry }
         ensures { Passed entry self.old self.new }
@@ -96,7 +99,7 @@ impl<'a> Reader<'a> {
         self.number += entry.records();
     }
 
-    // Passes each floor at the place.
+    /// Passes each floor at the place.
     fn pass_floors(&mut self)
         ensures { FloorsPassed self.old self.new }
     {
@@ -106,7 +109,7 @@ impl<'a> Reader<'a> {
         }
     }
 
-    // Answers by the entry at the place, which is no floor.
+    /// Answers by the entry at the place, which is no floor.
     fn answer_entry(&mut self) -> Answer<Slot, Amount>
         ensures { ByEntry self.old result self.new }
     {
@@ -162,7 +165,7 @@ impl<'a> OrderedStream for Reader<'a> {
 
     ghost hint = { reader_floor };
 
-    // The floor answers before a silence does: what is known to come later need not be waited for.
+    /// The floor answers before a silence does: what is known to come later need not be waited for.
     fn poll_next_before(&mut self, before: Option<Slot>) -> Answer<Slot, Amount>
         ensures { ReaderAnswers self.old before result self.new }
     {
@@ -203,7 +206,7 @@ impl<'a> FusedOrderedStream for Reader<'a> {
     }
 }
 
-// Does nothing: its contract is what a log of one floor at instant 80 answers.
+/// Does nothing: its contract is what a log of one floor at instant 80 answers.
 pub fn floor_alone_stands()
     ensures { FloorAlone }
 {}

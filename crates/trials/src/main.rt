@@ -1,6 +1,6 @@
 // SPDX-License-Identifier: MIT OR Apache-2.0
-// Logs as lines of hexadecimal words on standard input: prints what the check answers to each, and the records of those that
-// it accepts.
+//! Logs as lines of hexadecimal words on standard input: prints what the check answers to each, and the records of those that
+//! it accepts.
 #![tactic(auto)]
 
 use feed::Line;
@@ -44,7 +44,7 @@ mod tests {
     use feed::list;
     use std::test::Fail;
 
-    // What the check answers to a body of so many words: floors at instant 1, and at its end the given words.
+    /// What the check answers to a body of so many words: floors at instant 1, and at its end the given words.
     fn at_end(heap: Global, count: u32, end: &[u32]) -> Result<String, AllocError> {
         let mut words = vec![in heap; 0xC000_0005, count]?;
         words.resize(2 + (count as usize).saturating_sub(end.len()), 1)?;
@@ -90,7 +90,7 @@ mod tests {
         Ok(())
     }
 
-    // What the program says of bytes: its listing, or why there is none.
+    /// What the program says of bytes: its listing, or why there is none.
     fn said(heap: Global, bytes: &[u8]) -> Result<String, AllocError> {
         list(heap, bytes).or_else(|failure| failure.to_string(heap))
     }
