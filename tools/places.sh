@@ -1,7 +1,7 @@
 #!/usr/bin/env bash
 # SPDX-License-Identifier: MIT OR Apache-2.0
 # Counts the places that docs/DESIGN-PASS.md speaks of, by what their text looks like: a line for each point, and with a
-# point's number the places themselves.
+# number from 1 to 7 the places themselves.
 set -u
 cd "$(dirname "$0")/.." || exit 2
 
@@ -21,12 +21,14 @@ pattern() {
     6) echo 'place: usize,|fn words_from|while let \[|after @ \.\.' ;;
     # a case that picks the step to run, and an interface of one function
     7) echo 'trait Function|F: Function|impl Function|Case::\w+(\(\w+\))? => ' ;;
-    *) exit 2 ;;
+    *) return 2 ;;
   esac
 }
 
 places() {
-  grep -rnE --include='*.rt' -- "$(pattern "$1")" crates/*/src
+  local look
+  look=$(pattern "$1") || return 2
+  grep -rnE --include='*.rt' -- "$look" crates/*/src
 }
 
 if [ $# -gt 0 ]; then
