@@ -60,7 +60,7 @@ impl<'a> CheckedLog<'a> {
         self.words
     }
 
-    /// The caller's words, for the log.
+    /// Gives the log up for the caller's words.
     pub fn into_words(self) -> &'a [u32]
         ensures held { result ≡ self.entry.words }
         ensures passes { Passes result.now }

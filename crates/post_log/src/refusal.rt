@@ -6,7 +6,7 @@ ghost use Rattle.post_log.specs.Refusals.{number, place, message};
 use std::error::Error;
 use std::fmt;
 
-/// What is wrong, and at which word of the body.
+/// What is wrong and, where it is a word of the body, at which place, counted from the log's first word.
 #[derive(Clone, Copy, Debug, PartialEq, Eq)]
 pub enum Refusal {
     /// fewer than two words
