@@ -66,14 +66,14 @@ impl Progress {
         }
     }
 
-    /// Judges a word, by whether a data word follows it.
-    fn judge(self, word: Word, followed: bool) -> Result<Progress, Refusal>
+    /// Judges a word, and a head by whether the words after it begin with data.
+    fn judge(self, word: Word, after: &[u32]) -> Result<Progress, Refusal>
         requires { self.place < 2 ^ 32 }
-        ensures { result ≡ judged word followed self }
+        ensures { result ≡ judged word (data_next (map word_of after.now)) self }
     {
         let at = self.place;
         match word {
-            Word::Head { .. } if !followed => Err(Refusal::Misplaced { at }),
+            Word::Head { .. } if !data_next(after) => Err(Refusal::Misplaced { at }),
             Word::Floor { instant } | Word::Head { instant } if instant < self.instant => {
                 Err(Refusal::Falling { at })
             }
@@ -107,7 +107,7 @@ fn judge_body(words: &[u32]) -> Result<(), Refusal>
     let mut progress = Progress::new();
     let mut rest = words;
     while let [bits, after @ ..] = rest {
-        progress = progress.judge(Word::from(*bits), data_next(after))?;
+        progress = progress.judge(Word::from(*bits), after)?;
         rest = after;
     }
     Ok(())

@@ -47,12 +47,16 @@ module _ (p : ℕ) where
         ordered_rises (n + 1) es (record { rising = λ j k e f l. h.rising (suc j) (suc k) e f (omega arith); counted = λ k u i b d e. omega (arith, h.counted (suc k) u i b d e) }),
       )
 
-pub opened_sound : (ws : List ℕ) → Told (body ws) → Sound (opened (post ws) ws)
-opened_sound ws told =
+pub opened_sound : (p : ℕ) (ws : List ℕ) → Told (body ws) → Sound (opened p ws)
+opened_sound p ws told =
     record {
       above = tt;
-      rising = ordered_rises (post ws) 0 (entries_of (body ws)) (record { rising = told.rising; counted = λ k t m a c e. omega (arith, told.counted k t m a c e) });
+      rising = ordered_rises p 0 (entries_of (body ws)) (record { rising = told.rising; counted = λ k t m a c e. omega (arith, told.counted k t m a c e) });
     }
+
+-- and so it is of the post that its words name
+pub opened_log : (ws : List ℕ) → Told (body ws) → Sound (opened (post ws) ws)
+opened_log ws = opened_sound (post ws) ws
 
 -- of entries, the first k have no more records than all have words
 records_up_to : (k : ℕ) (es : List Entry) → records (take k es) ≤ length (spelling es)

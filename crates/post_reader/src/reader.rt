@@ -35,7 +35,7 @@ impl<'a> Reader<'a> {
     ghost use Rattle.post_reader.specs.Readers.{unread_of, state_of, reader_records, all_read, ReaderSound, AtPlace, Next, Passed, FloorsPassed, ByEntry};
 
     /// Reads a log from its body's first word.
-    #[tactic(auto, using(crate::proofs::Opening::opened_sound, crate::proofs::Opening::opened_within))]
+    #[tactic(auto, using(crate::proofs::Opening::opened_log, crate::proofs::Opening::opened_within))]
     pub fn new(log: CheckedLog<'a>) -> Self
         ensures words { result.log.words ≡ log.entry.words }
         ensures state { state_of result ≡ opened (post log.entry.words.now) log.entry.words.now }
