@@ -19,28 +19,35 @@ pub(crate) enum Case {
     Tariffs(Plan),
 }
 
-fn number(text: &str) -> anyhow::Result<u32> {
-    Ok(text.parse()?)
+fn number(text: Option<&str>) -> anyhow::Result<u32> {
+    let Some(digits) = text else {
+        bail!("a number is missing");
+    };
+    Ok(digits.parse()?)
 }
 
 /// A slot by its instant, class, post and number; a bound may be past the limits of a record's.
-fn slot(heap: Global, text: &str) -> anyhow::Result<Slot> {
-    let parts: Vec<u32> = text.split('.').map(number).try_collect(heap)?;
-    let [instant, class, post, number] = *parts.as_slice() else {
-        bail!("no slot");
-    };
-    Ok(Slot {
-        instant,
-        class: Class::try_from(class)?,
-        post,
-        number,
-    })
+fn slot(text: &str) -> anyhow::Result<Slot> {
+    let mut parts = text.split('.');
+    let instant = number(parts.next())?;
+    let class = number(parts.next())?;
+    let post = number(parts.next())?;
+    let number = number(parts.next())?;
+    match (Class::try_from(class), parts.next()) {
+        (Ok(class), None) => Ok(Slot {
+            instant,
+            class,
+            post,
+            number,
+        }),
+        _ => bail!("no slot"),
+    }
 }
 
-fn bound(heap: Global, word: &str) -> anyhow::Result<Option<Slot>> {
+fn bound(word: &str) -> anyhow::Result<Option<Slot>> {
     match word {
         "-" => Ok(None),
-        _ => Ok(Some(slot(heap, word)?)),
+        _ => Ok(Some(slot(word)?)),
     }
 }
 
@@ -50,19 +57,19 @@ fn log_words(heap: Global, words: SplitWhitespace<'_>) -> anyhow::Result<Vec<u32
         .try_collect(heap)
 }
 
-fn tariffs(heap: Global, words: SplitWhitespace<'_>) -> anyhow::Result<Plan> {
-    let parts: Vec<u32> = words.map(number).try_collect(heap)?;
-    let [first, step, count, even, odd, post] = *parts.as_slice() else {
-        bail!("no plan");
+fn tariffs(mut words: SplitWhitespace<'_>) -> anyhow::Result<Plan> {
+    let plan = Plan {
+        first: number(words.next())?,
+        step: number(words.next())?,
+        count: number(words.next())?,
+        even: number(words.next())?,
+        odd: number(words.next())?,
+        post: number(words.next())?,
     };
-    Ok(Plan {
-        first,
-        step,
-        count,
-        even,
-        odd,
-        post,
-    })
+    match words.next() {
+        None => Ok(plan),
+        Some(_) => bail!("more than a plan"),
+    }
 }
 
 fn stream(heap: Global, text: &str) -> anyhow::Result<Case> {
@@ -70,7 +77,7 @@ fn stream(heap: Global, text: &str) -> anyhow::Result<Case> {
     match words.next() {
         Some("log") => Ok(Case::Log(log_words(heap, words)?)),
         Some("some") => Ok(Case::Present(log_words(heap, words)?)),
-        Some("calendar") => Ok(Case::Tariffs(tariffs(heap, words)?)),
+        Some("calendar") => Ok(Case::Tariffs(tariffs(words)?)),
         Some("absent") if words.next().is_none() => Ok(Case::Absent),
         _ => bail!("no stream"),
     }
@@ -79,9 +86,10 @@ fn stream(heap: Global, text: &str) -> anyhow::Result<Case> {
 /// The stream before the semicolon, and the bounds after it.
 pub(crate) fn parse(heap: Global, line: &str) -> anyhow::Result<(Case, Vec<Option<Slot>>)> {
     let (before, after) = line.split_once(';').context("no polls")?;
-    let polls = after
-        .split_whitespace()
-        .map(|word| bound(heap, word))
-        .try_collect(heap)?;
-    Ok((stream(heap, before)?, polls))
+    let case = stream(heap, before)?;
+    let mut polls = Vec::new(heap);
+    for word in after.split_whitespace() {
+        polls.push(bound(word)?)?;
+    }
+    Ok((case, polls))
 }

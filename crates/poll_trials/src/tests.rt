@@ -1,10 +1,38 @@
 // SPDX-License-Identifier: MIT OR Apache-2.0
-//! What is made at the limits, how orderings compare, and what answers give.
+//! Why a line is no case, what is made at the limits, how orderings compare, and what answers give.
 ghost use Rattle.std.specs.Prelude.{◌/◌};
 
+use crate::case::parse;
 use garage::{Amount, Instant, Line, Minute, PastLimit, Slot};
 use ordered_stream::{Answer, Function};
 use post_log::Class;
+use std::test::Fail;
+
+/// The stream is judged before the polls, each number in turn, and what is too much last.
+#[test]
+fn says_why_a_line_is_no_case(rt: HostRuntime) -> Result<(), Fail> {
+    let heap = rt.alloc();
+    let lines = [
+        ("absent", "no polls"),
+        ("nothing; x", "no stream"),
+        ("absent now; x", "no stream"),
+        ("absent; 1.1.1", "a number is missing"),
+        ("absent; 1.3.1", "a number is missing"),
+        ("absent; 1.x", "invalid digit found in string"),
+        ("absent; 1.3.1.1", "no slot"),
+        ("absent; 1.1.1.1.x", "no slot"),
+        ("calendar 1 2 3; x", "a number is missing"),
+        ("calendar 1 2 3 4 5 6 x; -", "more than a plan"),
+    ];
+    for (line, why) in lines {
+        let said = match parse(heap, line) {
+            Ok(_) => String::new(heap),
+            Err(error) => error.to_string(heap)?,
+        };
+        assert_eq!(rt; said.as_str(), why);
+    }
+    Ok(())
+}
 
 #[test]
 fn makes_nothing_past_a_limit(rt: HostRuntime) {
