@@ -42,7 +42,19 @@ fn main(rt: HostRuntime) -> anyhow::Result<()> {
 mod tests {
     use super::*;
     use feed::list;
+    use post_log::{Refusal, check};
     use std::test::Fail;
+
+    /// A refusal leaves the caller's log as it was.
+    #[test]
+    fn fills_the_callers_log(rt: HostRuntime) {
+        let words = [0xC000_0005, 1, 7];
+        let mut log = CheckedLog::empty();
+        assert_eq!(rt; check(&words, &mut log), Ok(()));
+        assert_eq!(rt; log.words(), words.as_slice());
+        assert_eq!(rt; check(&words[..1], &mut log), Err(Refusal::TooShort));
+        assert_eq!(rt; log.words(), words.as_slice());
+    }
 
     /// What the check answers to a body of so many words: floors at instant 1, and at its end the given words.
     fn at_end(heap: Global, count: u32, end: &[u32]) -> Result<String, AllocError> {
